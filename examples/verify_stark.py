@@ -211,12 +211,12 @@ def claims(n, proof, zeta, following):
     return [{"commitment": proof["trace_commitment"], "matrices": [trace]},
             {"commitment": proof["quotient_commitment"], "matrices": chunks}]
 
-def tests(statement, parameters, proof, note):
+def tests(statement, parameters, proof, note, challenger):
     """All refusals in order, each with whether its reason holds. Numbers are noted by name."""
     air, n, public = statement
     values, degrees = proof["opened_values"], []
     yield from air_refusals(air, degrees)
-    k, challenger = log_chunks(air, degrees), Challenger()
+    k = log_chunks(air, degrees)
     yield from tests_before(statement, parameters, k, values)
     alpha, zeta = draw(challenger, statement, proof)
     note(alpha=alpha, zeta=zeta, state_after_zeta=challenger.state)
@@ -238,8 +238,9 @@ STARK = {"opened_values": OPENED, "opening_proof": PROOF, "quotient_commitment":
          "trace_commitment": DIGEST}
 INPUT = {"air": AIR, "log_n": COUNT, "params": params, "proof": STARK, "public_values": [P]}
 
-def answer(load, note=lambda **values: None):
-    """The line for the input whose bytes `load` returns, as a value, and the status."""
+def answer(load, note=lambda **values: None, challenger=None):
+    """The line for the input whose bytes `load` returns, as a value, and the status. Without a
+    challenger it is by one that has observed nothing."""
     try:
         given = read(INPUT, parse(load()))
     except OSError:
@@ -247,7 +248,8 @@ def answer(load, note=lambda **values: None):
     except Unreadable as why:
         return {"unreadable": str(why)}, 2
     statement = given["air"], given["log_n"], given["public_values"]
-    for name, holds in tests(statement, given["params"], given["proof"], note):
+    challenger = challenger or Challenger()
+    for name, holds in tests(statement, given["params"], given["proof"], note, challenger):
         if holds:
             return {"refused": name}, 1
     name = digest(given["air"]).hex()

@@ -3,7 +3,8 @@
 A section of the page that is named for a language has a program, in a block of that language, which
 proves a statement and judges the proof. Its indented lines are the commands, in order, in a folder
 where `circle` is an unpacked bundle. The table in the section `A bundle` says what stands in a
-clone for the places of a bundle.
+clone for the places of a bundle. The section `A protocol` has a program for each of two languages,
+and its command, which is run in the same folder as that language's other program.
 """
 import json
 import os
@@ -19,6 +20,13 @@ LANGUAGES = {
     "Rust": (["cargo", "cc"], {"rust": "sevens/src/main.rs"}, "proof.json", "verified\n"),
     "C": (["cc"], {"c": "sevens.c", "json": "sevens.json"}, "claims.json", '{"verified":true}\n'),
 }
+# Of each language that has a program of a protocol, the kind of its block, its file, and what its
+# command begins with.
+PROTOCOL = "A protocol"
+PROTOCOLS = {
+    "Python": ("python", "protocol.py", "site/bin/python "),
+    "Rust": ("rust", "circle/rust/examples/protocol.rs", "cargo "),
+}
 
 
 class Fault(Exception):
@@ -31,19 +39,28 @@ def section(heading):
     return re.search(rf"^## {heading}\n(.*?)^## ", text, re.M | re.S)[1]
 
 
+def block(heading, kind):
+    """The text of a section's block of a kind."""
+    return re.search(rf"^```{kind}\n(.*?)^```$", section(heading), re.M | re.S)[1]
+
+
 def blocks(language):
     """The files that the section's blocks stand for, with their texts."""
-    text, (_, files, *_) = section(language), LANGUAGES[language]
-    found = {kind: re.search(rf"^```{kind}\n(.*?)^```$", text, re.M | re.S)[1] for kind in files}
-    return {files[kind]: text for kind, text in found.items()}
+    _, files, *_ = LANGUAGES[language]
+    return {file: block(language, kind) for kind, file in files.items()}
+
+
+def placed(text, places):
+    """A text with these places in those of the page."""
+    for place, other in places.items():
+        text = text.replace(place, other)
+    return text
 
 
 def commands(heading, places):
     """A section's commands, with these places in those of the page."""
     text = re.sub(r"^```.*?^```$", "", section(heading), flags=re.M | re.S)
-    for place, other in places.items():
-        text = text.replace(place, other)
-    return re.findall(r"^    (\S.*)$", text, re.M)
+    return re.findall(r"^    (\S.*)$", placed(text, places), re.M)
 
 
 def places_in_clone():
@@ -73,12 +90,19 @@ def damage(path):
     path.write_text(json.dumps(value), encoding="utf-8")
 
 
+def environment(room):
+    """The environment of the commands in a folder."""
+    env = {**os.environ, "CARGO_NET_OFFLINE": "true", "PIP_NO_INDEX": "1"}
+    env["CARGO_TARGET_DIR"] = str(room / "target")
+    return {name: value for name, value in env.items() if name != "CIRCLE_LIBRARIES"}
+
+
 def try_program(room, language, places):
     """Makes a language's program in a folder and runs it, with these places in those of the page.
-    It is to accept its own proof, and to refuse that proof once it is damaged."""
+    It is to accept its own proof, and to refuse that proof once it is damaged. Then runs the
+    language's program of a protocol."""
     *_, proof, accepted = LANGUAGES[language]
-    env = {**os.environ, "CARGO_NET_OFFLINE": "true", "PIP_NO_INDEX": "1"}
-    env = {name: value for name, value in env.items() if name != "CIRCLE_LIBRARIES"}
+    env = environment(room)
     for line in commands(language, places):
         write_files(room, language)
         said = run(room, line, env)
@@ -88,3 +112,20 @@ def try_program(room, language, places):
     said = run(room, line, env)
     if not said[1] or said[0] == accepted:
         raise Fault(f"{line}, of a damaged proof: {said}")
+    if language in PROTOCOLS:
+        try_protocol(room, language, places)
+
+
+def try_protocol(room, language, places):
+    """Runs a language's program of a protocol, which is to verify its own proof. A file that is
+    there is to be the one that the page shows."""
+    kind, file, begin = PROTOCOLS[language]
+    path, text = room / placed(file, places), block(PROTOCOL, kind)
+    if not path.exists():
+        path.write_text(text, encoding="utf-8")
+    if path.read_text(encoding="utf-8") != text:
+        raise Fault(f"the page shows another program than {path}")
+    (line,) = (it for it in commands(PROTOCOL, places) if it.startswith(begin))
+    said = run(room, line, environment(room))
+    if said[:2] != ("verified\n", 0):
+        raise Fault(f"{line}: {said}")

@@ -38,7 +38,7 @@ def libraries():
     named = os.environ.get("CIRCLE_LIBRARIES")
     folder = HERE.parent / "c" / "out" if named is None else pathlib.Path(named)
     if not folder.is_absolute():
-        raise OSError(f"CIRCLE_LIBRARIES isn't the path of a folder from the root: {named!r}")
+        raise OSError(f"CIRCLE_LIBRARIES must be an absolute path: {named!r}")
     if not (folder / soname()).is_file():
         told = "bindings/c/build makes it" if named is None else f"CIRCLE_LIBRARIES names {named!r}"
         raise OSError(f"there is no {soname()} in {folder}: {told}")

@@ -165,14 +165,14 @@ class Params(unittest.TestCase):
         for number, name in [*wrong.items(), (None, "WrongKind")]:
             self.refused(name, circle.Unreadable, text, {**SEVENS, "num_queries": number})
         for params in (text, circle.Statement([])):
-            with self.assertRaisesRegex(TypeError, "a Params or its value of JSON is due"):
+            with self.assertRaisesRegex(TypeError, "expected a Params or its JSON value, got "):
                 circle.verify_text(text, params)
 
     def test_true_and_false_are_no_parameters(self):
         text = stored("sevens", "verify")
         for name in [*SEVENS, "log_final_poly_len"]:
             for wrong in (True, False):
-                told = f"WrongKind at {name}: {wrong} is no whole number below 2"
+                told = f"WrongKind at {name}: {wrong} isn't a whole number below 2"
                 with self.assertRaisesRegex(ValueError, told):
                     circle.verify_text(text, {**SEVENS, name: wrong})
 
@@ -187,7 +187,8 @@ class Texts(unittest.TestCase):
         for text in ("", " ", "\0", "\ufeff", "\ud800", b"", b"\xff", b"{\xc3\x28}"):
             self.unreadable("json", text)
         for value in (None, 7, {}, []):
-            with self.assertRaisesRegex(TypeError, f"not a {type(value).__name__}"):
+            kind = type(value).__name__
+            with self.assertRaisesRegex(TypeError, f"expected str or bytes, got {kind}"):
                 circle.verify_as_stated(value)
 
     def test_the_path_of_what_cant_be_read(self):
@@ -246,7 +247,7 @@ class Libraries(unittest.TestCase):
 
     def test_a_folder_that_is_relative_or_gone(self):
         for name in ("", ".", "bindings/c/out", "/nowhere"):
-            told = "names" if name == "/nowhere" else "isn't the path of a folder from the root:"
+            told = "names" if name == "/nowhere" else "must be an absolute path:"
             self.assertIn(f"CIRCLE_LIBRARIES {told} {name!r}", self.said(name))
 
 

@@ -80,10 +80,10 @@ class Stored(unittest.TestCase):
     def test_only_its_own_kind_is_taken(self):
         statement, proof, params = parts(json.loads(given.stored("sevens", "verify")))
         for wrong in ((proof, proof, params), (statement, params, params), ("", proof, params)):
-            with self.assertRaisesRegex(TypeError, "or its value of JSON is due here, and not a"):
+            with self.assertRaisesRegex(TypeError, "or its JSON value, got "):
                 circle.verify(*wrong)
         whole = json.loads(given.stored("sevens", "verify"))
-        with self.assertRaisesRegex(circle.Unreadable, "WrongKind at batches: a dict is no list"):
+        with self.assertRaisesRegex(circle.Unreadable, "WrongKind at batches: a dict isn't a list"):
             circle.verify(whole, proof, params)
         with self.assertRaisesRegex(circle.Unreadable, "MissingKey at batch_pow_witness"):
             circle.verify(statement, whole, params)

@@ -61,9 +61,7 @@ fn folder() -> Result<PathBuf, String> {
 // The folder that the environment names, which has both libraries.
 fn named_folder(named: &Path) -> Result<PathBuf, String> {
     if !named.is_absolute() {
-        return Err(format!(
-            "{FOLDER} isn't the path of a folder from the root: {named:?}"
-        ));
+        return Err(format!("{FOLDER} must be an absolute path: {named:?}"));
     }
     let missing = LIBRARIES
         .iter()

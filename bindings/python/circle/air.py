@@ -44,7 +44,7 @@ class _Constraint(NamedTuple):
 
 
 def _whole(value: Any) -> Optional[int]:
-    """The whole number that a value is, where True and False are none."""
+    """The whole number that a value is; None for others, and for True and False."""
     if isinstance(value, bool):
         return None
     try:
@@ -57,7 +57,7 @@ def _element(value: Any) -> int:
     """The element that a whole number is modulo ORDER."""
     number = _whole(value)
     if number is None:
-        raise TypeError(f"a whole number is due here, and not a {type(value).__name__}")
+        raise TypeError(f"expected a whole number, got {type(value).__name__}")
     return number % ORDER
 
 
@@ -99,7 +99,7 @@ class Expr:
         if count is None:
             return NotImplemented
         if count < 0:
-            raise ValueError(f"the exponent is {count}, and at least 0")
+            raise ValueError(f"expected an exponent of at least 0, got {count}")
         power: Operand = 1
         for bit in f"{count:b}":
             power = power * power * (self if bit == "1" else 1)
@@ -145,7 +145,7 @@ class Air:
 
     def __init__(self, columns: int, public_values: int = 0) -> None:
         if columns < 1 or public_values < 0:
-            raise ValueError("an AIR has a column at least, and no fewer than 0 public values")
+            raise ValueError("expected at least 1 column and 0 public values")
         self._nodes: List[_Node] = []
         self._numbers: Dict[_Node, int] = {}
         self._periodic_columns: List[Tuple[int, ...]] = []
@@ -175,7 +175,7 @@ class Air:
         """The expression that a value stands for: itself, or a constant."""
         if not self._is_operand(value):
             kind = type(value).__name__
-            raise TypeError(f"an expression or a whole number is due here, and not a {kind}")
+            raise TypeError(f"expected an expression or a whole number, got {kind}")
         return value if isinstance(value, Expr) else self.constant(value)
 
     @property
@@ -184,7 +184,7 @@ class Air:
         return tuple(it.name for it in self._constraints)
 
     def to_value(self) -> Dict[str, Any]:
-        """The value of JSON that stands for the AIR (docs/STARK.md)."""
+        """The AIR's JSON value (docs/STARK.md)."""
         kept, required = self._kept(), self._constraints
         numbers = {node: number for number, node in enumerate(kept)}
         return {
@@ -214,7 +214,7 @@ class Air:
     def _is_operand(self, value: Any) -> bool:
         """Whether a value stands for an expression of this AIR."""
         if isinstance(value, Expr) and value._air is not self:
-            raise ValueError("the expression is one of another AIR")
+            raise ValueError("the expression belongs to another AIR")
         return isinstance(value, Expr) or _whole(value) is not None
 
     def _known(self, value: Operand) -> Optional[int]:
@@ -244,7 +244,7 @@ class Air:
 
     def _require(self, when: str, expr: Expr, name: Optional[str]) -> None:
         if name is not None and not isinstance(name, str):
-            raise TypeError(f"a constraint's name is a str, and not a {type(name).__name__}")
+            raise TypeError(f"expected a str as the constraint's name, got {type(name).__name__}")
         self._constraints.append(_Constraint(expr._node, when, name))
 
     def _kept(self) -> List[int]:

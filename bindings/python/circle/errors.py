@@ -14,14 +14,14 @@ class Error(Exception):
 
 
 class Refused(Error):
-    """The input is refused. Where `name` is `Memory` the call ran out of memory: no verdict."""
+    """The input is refused. If `name` is `Memory`, the call ran out of memory: no verdict."""
 
 
 class Unsatisfied(Refused):
     """A constraint doesn't hold at a row: the first such row, and its first such constraint.
 
     `row` and `constraint` count from 0. `constraint_name` is the name that the constraint was
-    given, and None where it has none.
+    given, or None.
     """
 
     def __init__(self, row: int, constraint: int, constraint_name: Optional[str] = None) -> None:
@@ -41,7 +41,7 @@ class Unreadable(Error, ValueError):
 
     `path` leads to the value that can't be read, as `proof.fri_proof.final_poly[0]`, or to the key
     that is missing or unknown, and is empty for the whole. The library names no key. So this
-    package reads the text once more to find it; where it finds another fault first, path is None.
+    package reads the text once more to find it; if it finds another fault first, path is None.
     """
 
     def __init__(self, name: str, path: Optional[str] = None, why: str = "") -> None:

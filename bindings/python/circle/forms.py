@@ -2,8 +2,8 @@
 
 A record reads its members when it is made. Of a member that can't be read it raises `Unreadable`,
 with the name that the library has for the fault and the path of the member. A member that is a
-record may be given as the value of JSON that stands for it, and a list as any sequence, such as an
-array of numpy. What is read is kept as tuples.
+record may be given as its JSON value, and a list as any sequence, such as a numpy array. What is
+read is kept as tuples.
 """
 
 import collections.abc
@@ -20,19 +20,22 @@ from .errors import Unreadable
 
 __all__ = [
     "CUBIC",
+    "COMMITMENT",
+    "COMMITMENTS",
     "CUBICS",
     "COUNT",
-    "DIGEST",
     "DIGESTS",
     "ELEMENT",
     "ELEMENTS",
     "LISTS_OF_CUBICS",
     "ORDER",
     "ROWS",
+    "Commitment",
     "Cubic",
     "Record",
     "by",
     "coefficients",
+    "commitments",
     "compact",
     "count",
     "element",
@@ -48,14 +51,17 @@ Cubic = Sequence[int]
 # The number of elements of the base field.
 ORDER = (1 << 31) - 1
 
+_BYTES = (bytes, bytearray, memoryview)
+_DIGEST_LEN = 32
+
 _Read = Callable[[Any], Any]
 _R = TypeVar("_R", bound="Record")
 
 
 def _wrong(value: Any, wanted: str) -> Unreadable:
     is_long = isinstance(value, (list, tuple, collections.abc.Mapping))
-    told = f"a {type(value).__name__}" if is_long else reprlib.repr(value)
-    return Unreadable("WrongKind", "", f"{told} is no {wanted}")
+    shown = f"a {type(value).__name__}" if is_long else reprlib.repr(value)
+    return Unreadable("WrongKind", "", f"{shown} isn't {wanted}")
 
 
 def _number(value: Any, wanted: str) -> int:
@@ -72,14 +78,14 @@ def _number(value: Any, wanted: str) -> int:
 
 
 def count(value: Any) -> int:
-    return _number(value, "whole number below 2^64")
+    return _number(value, "a whole number below 2^64")
 
 
 def element(value: Any) -> int:
     """An element of the base field."""
     if type(value) is int and 0 <= value < ORDER:
         return value
-    found = _number(value, "whole number below 2^31 - 1")
+    found = _number(value, "a whole number below 2^31 - 1")
     if found >= ORDER:
         raise Unreadable("OutOfRange", "", f"{found} isn't below 2^31 - 1")
     return found
@@ -87,10 +93,44 @@ def element(value: Any) -> int:
 
 def _digest(value: Any) -> str:
     if not isinstance(value, str):
-        raise _wrong(value, "string of 64 hexadecimal digits")
+        raise _wrong(value, "a string of 64 hexadecimal digits")
     if not re.fullmatch("[0-9A-Fa-f]{64}", value):
         raise Unreadable("BadHex", "", f"{reprlib.repr(value)} isn't 64 hexadecimal digits")
     return value.lower()
+
+
+class Commitment(str):
+    """A commitment: 64 hexadecimal digits, as in JSON. Digits in upper case are converted to lower
+    case. `bytes(commitment)` returns its 32 bytes, which a challenger absorbs."""
+
+    __slots__ = ()
+
+    def __new__(cls, digits: str) -> "Commitment":
+        if not isinstance(digits, str):
+            kind = type(digits).__name__
+            use = " (use Commitment.from_bytes)" if isinstance(digits, _BYTES) else ""
+            raise TypeError(f"expected a str of 64 hexadecimal digits, got {kind}{use}")
+        return super().__new__(cls, _digest(digits))
+
+    @classmethod
+    def from_bytes(cls, data: Union[bytes, bytearray, memoryview]) -> "Commitment":
+        """The commitment with these 32 bytes."""
+        if not isinstance(data, _BYTES):
+            raise TypeError(f"expected bytes, got {type(data).__name__}")
+        found = bytes(data)
+        if len(found) != _DIGEST_LEN:
+            raise ValueError(f"expected {_DIGEST_LEN} bytes, got {len(found)}")
+        return cls(found.hex())
+
+    def __bytes__(self) -> bytes:
+        return bytes.fromhex(self)
+
+    def __repr__(self) -> str:
+        return f"Commitment({str(self)!r})"
+
+
+def _commitment(value: Any) -> Commitment:
+    return Commitment(_digest(value))
 
 
 def _items(value: Any) -> Any:
@@ -99,7 +139,7 @@ def _items(value: Any) -> Any:
         return value
     found = value.tolist() if hasattr(value, "tolist") else value
     if isinstance(found, (str, bytes)) or not isinstance(found, collections.abc.Sequence):
-        raise _wrong(value, "list")
+        raise _wrong(value, "a list")
     return found
 
 
@@ -117,8 +157,9 @@ def list_of(item: _Read) -> _Read:
 
 
 def _cubic(value: Any) -> Cubic:
-    if len(_items(value)) != 3:
-        raise _wrong(value, "list of three numbers")
+    length = len(_items(value))
+    if length != 3:
+        raise Unreadable("WrongKind", "", f"expected three numbers, got {length}")
     return list_of(element)(value)
 
 
@@ -138,8 +179,10 @@ def by(read: _Read, may_be_missing: bool = False) -> Dict[str, Any]:
     return {"read": read, "may_be_missing": may_be_missing}
 
 
-COUNT, ELEMENT, DIGEST, CUBIC = map(by, (count, element, _digest, _cubic))
-ELEMENTS, DIGESTS, CUBICS = (by(list_of(it)) for it in (element, _digest, _cubic))
+commitments = list_of(_commitment)
+COUNT, ELEMENT, COMMITMENT, CUBIC = map(by, (count, element, _commitment, _cubic))
+ELEMENTS, COMMITMENTS, CUBICS = map(by, (list_of(element), commitments, list_of(_cubic)))
+DIGESTS = by(list_of(_digest))
 ROWS, LISTS_OF_CUBICS = (by(list_of(list_of(it))) for it in (element, _cubic))
 
 
@@ -165,7 +208,7 @@ def _whole(digits: str) -> Union[int, float]:
 
 
 def _constant(word: str) -> None:
-    raise ValueError(f"{word} is no JSON")
+    raise ValueError(f"{word} isn't JSON")
 
 
 def parsed(text: Union[str, bytes]) -> Any:
@@ -197,12 +240,12 @@ class Record:
 
     @classmethod
     def from_value(cls: Type[_R], value: Any) -> _R:
-        """The record that a value of JSON stands for, as `json.loads` makes it."""
+        """The record with this JSON value, as `json.loads` returns it."""
         if not isinstance(value, collections.abc.Mapping):
-            raise _wrong(value, "object")
+            raise _wrong(value, "an object")
         members = {it.name: it.metadata["may_be_missing"] for it in fields(cls)}
-        due = [name for name, may_be_missing in members.items() if not may_be_missing]
-        missing = next((name for name in due if name not in value), None)
+        required = [name for name, may_be_missing in members.items() if not may_be_missing]
+        missing = next((name for name in required if name not in value), None)
         unknown = next((name for name in value if name not in members), None)
         if missing is not None:
             raise Unreadable("MissingKey", missing)
@@ -212,13 +255,13 @@ class Record:
 
     @classmethod
     def from_json(cls: Type[_R], text: Union[str, bytes]) -> _R:
-        """The record that a text of JSON stands for."""
+        """The record with this JSON text."""
         return cls.from_value(parsed(text))
 
     def to_value(self) -> Any:
-        """The value of JSON that stands for the record."""
+        """The record's JSON value."""
         return {member.name: written(getattr(self, member.name)) for member in fields(self)}
 
     def to_json(self) -> str:
-        """The text of JSON that stands for the record, by ascending keys."""
+        """The record's JSON text, with ascending keys."""
         return compact(self.to_value())

@@ -1,14 +1,15 @@
 """What the calls by texts read, as records: they find where a text can't be read."""
 
+import collections.abc
 from dataclasses import dataclass, field
-from typing import Sequence, Type
+from typing import Any, Sequence, Type
 
 from .errors import Unreadable
 from .forms import COUNT, ELEMENTS, ROWS, Record, by, count, list_of, record
 from .library import Text
 from .records import ClaimedBatch, Matrix, Params, Proof
 
-__all__ = ["ProveInput", "ShapeInput", "ValuesInput", "VerifyInput", "located"]
+__all__ = ["CommitInput", "ProveInput", "ShapeInput", "ValuesInput", "VerifyInput", "located"]
 
 
 @dataclass(frozen=True)
@@ -18,6 +19,20 @@ class ValuesInput(Record):
     coefficients: Sequence[Sequence[int]] = field(metadata=ROWS)
     log_n: int = field(metadata=COUNT)
     shift: Sequence[int] = field(metadata=ELEMENTS)
+
+
+def _committed(value: Any) -> Matrix:
+    """A matrix, of which the rows alone may be given."""
+    is_whole = isinstance(value, (Matrix, collections.abc.Mapping))
+    return record(Matrix)(value) if is_whole else Matrix((), value)
+
+
+@dataclass(frozen=True)
+class CommitInput(Record):
+    """An input of the program's `prove`, whose points don't count."""
+
+    batches: Sequence[Sequence[Matrix]] = field(metadata=by(list_of(list_of(_committed))))
+    params: Params = field(metadata=by(record(Params)))
 
 
 @dataclass(frozen=True)

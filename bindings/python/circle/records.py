@@ -1,18 +1,20 @@
 """What is proved, as records: parameters, statements and proofs, from and to JSON."""
 
 from dataclasses import dataclass, field
-from typing import Any, Sequence
+from typing import Any, Sequence, Union
 
 from .forms import (
+    COMMITMENT,
+    COMMITMENTS,
     COUNT,
     CUBIC,
     CUBICS,
-    DIGEST,
     DIGESTS,
     ELEMENT,
     ELEMENTS,
     LISTS_OF_CUBICS,
     ROWS,
+    Commitment,
     Cubic,
     Record,
     by,
@@ -43,7 +45,7 @@ __all__ = [
 class Params(Record):
     """The parameters of proofs, which the verifier chooses (docs/SECURITY.md).
 
-    Its value of JSON has every member, but that `log_final_poly_len` may be missing where it is 0.
+    Its JSON value has every member, except that `log_final_poly_len` may be missing if it is 0.
     """
 
     log_blowup: int = field(metadata=COUNT)
@@ -88,15 +90,16 @@ class ClaimedMatrix(Record):
 
 @dataclass(frozen=True)
 class ClaimedBatch(Record):
-    """The claims on the matrices that were committed to at once."""
+    """The claims on the matrices that were committed to at once. The commitment may be given as 64
+    hexadecimal digits, and is kept as a Commitment."""
 
-    commitment: str = field(metadata=DIGEST)
+    commitment: Union[Commitment, str] = field(metadata=COMMITMENT)
     matrices: Sequence[ClaimedMatrix] = field(metadata=by(list_of(record(ClaimedMatrix))))
 
 
 @dataclass(frozen=True)
 class Statement(Record):
-    """What a proof shows: the claims, batch by batch. Its value of JSON is a text's `batches`."""
+    """What a proof shows: the claims, batch by batch. Its JSON value is a text's `batches`."""
 
     batches: Sequence[ClaimedBatch] = field(metadata=by(list_of(record(ClaimedBatch))))
 
@@ -139,7 +142,7 @@ class RoundOpening(Record):
 class FriProof(Record):
     """The rounds, what is opened at the queries, and the final polynomial's coefficients."""
 
-    commit_phase_commits: Sequence[str] = field(metadata=DIGESTS)
+    commit_phase_commits: Sequence[Commitment] = field(metadata=COMMITMENTS)
     commit_pow_witnesses: Sequence[int] = field(metadata=ELEMENTS)
     input_openings: InputOpenings = field(metadata=by(record(InputOpenings)))
     commit_phase_openings: Sequence[RoundOpening] = field(
@@ -157,9 +160,9 @@ class FriProof(Record):
 
 @dataclass(frozen=True)
 class Proof(Record):
-    """A proof of claims. Its value of JSON is a text's `proof`."""
+    """A proof of claims. Its JSON value is a text's `proof`."""
 
     batch_pow_witness: int = field(metadata=ELEMENT)
-    first_layer_commitment: str = field(metadata=DIGEST)
+    first_layer_commitment: Commitment = field(metadata=COMMITMENT)
     lambdas: Sequence[Cubic] = field(metadata=CUBICS)
     fri_proof: FriProof = field(metadata=by(record(FriProof)))

@@ -60,12 +60,12 @@ def bits(
     counts. No theorem is known for claims of several heights in one run.
     """
     if min(params.num_queries, params.log_blowup, values) < 1:
-        raise ValueError("bits are of a query, a blowup of two and a claimed value at least")
+        raise ValueError("num_queries, log_blowup and values must be at least 1")
     if m is not None and m < _LEAST_M:
-        raise ValueError(f"m is {m}, and at least {_LEAST_M}")
+        raise ValueError(f"m must be at least {_LEAST_M}, got {m}")
     height, tried = log_n + params.log_blowup, range(_LEAST_M, _END_OF_M) if m is None else [m]
     if log_n < 0 or height > _GREATEST_HEIGHT:
-        raise ValueError(f"no matrix of 2^{log_n} rows is extended to 2^{height}")
+        raise ValueError(f"2^{log_n} rows can't be extended to 2^{height}")
     johnson = {it: _johnson(params, height, values, field_bits, it) for it in tried}
     most = max(johnson, key=lambda it: johnson[it].bits)
     unique = _unique_decoding(params, height, values, field_bits)

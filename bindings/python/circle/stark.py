@@ -8,27 +8,29 @@ A prover and a verifier write the statement each for itself: nothing but the pro
 `check_text`, `prove_text` and `verify_text` take texts of JSON, which docs/STARK.md describes.
 """
 
+import re
 from dataclasses import dataclass, field
-from typing import Any, Dict, Mapping, Sequence, Union
+from typing import Any, Dict, Mapping, Optional, Sequence, Union
 
 from . import records
 from .air import Air
+from .challenger import Challenger, advance
 from .errors import Unsatisfied
 from .forms import (
+    COMMITMENT,
     COUNT,
     CUBICS,
-    DIGEST,
     ELEMENTS,
     LISTS_OF_CUBICS,
     ROWS,
+    Commitment,
     Cubic,
     Record,
     by,
     compact,
-    parsed,
     record,
 )
-from .library import Text, line, line_of_proof
+from .library import State, Text, line, read_answer, unexpected
 from .records import Params
 
 __all__ = [
@@ -45,13 +47,15 @@ __all__ = [
 
 # More bytes than a verdict and each refusal have.
 _VERDICT_LEN = 256
-# More than most proofs have. Where one is longer, the call is repeated.
+# More than most proofs have. If one is longer, the call is repeated.
 _PROOF_LEN = 1 << 22
+_SATISFIED = '{"satisfied":true}'
+_VERIFIED = re.compile(r'\{"air_digest":"[0-9a-f]{64}","log_n":\d+,"verified":true\}')
 
 
 def _air(value: Any) -> Air:
     if not isinstance(value, Air):
-        raise TypeError(f"an Air is due here, and not a {type(value).__name__}")
+        raise TypeError(f"expected an Air, got {type(value).__name__}")
     return value
 
 
@@ -80,12 +84,12 @@ class OpenedValues(Record):
 
 @dataclass(frozen=True)
 class Proof(Record):
-    """A proof of a statement. Its value of JSON is a text's `proof`."""
+    """A proof of a statement. Its JSON value is a text's `proof`."""
 
     opened_values: OpenedValues = field(metadata=by(record(OpenedValues)))
     opening_proof: records.Proof = field(metadata=by(record(records.Proof)))
-    quotient_commitment: str = field(metadata=DIGEST)
-    trace_commitment: str = field(metadata=DIGEST)
+    quotient_commitment: Commitment = field(metadata=COMMITMENT)
+    trace_commitment: Commitment = field(metadata=COMMITMENT)
 
 
 @dataclass(frozen=True)
@@ -95,58 +99,88 @@ class _Trace(Record):
 
 
 def check(air: Air, rows: Sequence[Sequence[int]], public_values: Sequence[int] = ()) -> None:
-    """Returns where the rows satisfy the AIR of these public values, and raises otherwise:
-    Unsatisfied where a constraint doesn't hold at a row."""
-    value = _Trace(rows, public_values).to_value()
-    _line(_air(air), "stark_check", {**value, "air": air.to_value()}, _VERDICT_LEN)
+    """Returns None if the rows satisfy the AIR with these public values; raises otherwise:
+    Unsatisfied if a constraint doesn't hold at a row."""
+    value = {**_Trace(rows, public_values).to_value(), "air": _air(air).to_value()}
+    answer = _line(air, "stark_check", value, _VERDICT_LEN)
+    if answer != _SATISFIED:
+        raise unexpected(answer)
 
 
-def prove(statement: Statement, rows: Sequence[Sequence[int]]) -> Proof:
-    """Returns a proof of the statement, of rows that satisfy its AIR, and raises otherwise:
-    Unsatisfied where a constraint doesn't hold at a row."""
+def prove(
+    statement: Statement,
+    rows: Sequence[Sequence[int]],
+    *,
+    challenger: Optional[Challenger] = None,
+) -> Proof:
+    """Returns a proof of the statement if the rows satisfy its AIR; raises otherwise: Unsatisfied
+    if a constraint doesn't hold at a row, ValueError if the number of rows isn't the statement's.
+
+    A challenger must have absorbed what the application requires, such as its name, and ends in the
+    state that the proof leaves; unchanged if this raises. Without one, the proof starts from a
+    challenger that has absorbed nothing.
+    """
     value = {**statement.to_value(), **_Trace(rows, statement.public_values).to_value()}
     height, log_n = len(value["rows"]), value.pop("log_n")
     if height != 2 ** min(log_n, 64):
-        raise ValueError(f"the statement is of 2^{log_n} rows, and there are {height}")
-    told = _line(statement.air, "stark_prove", value, _PROOF_LEN)
-    return Proof.from_value(parsed(told)["proof"])
+        raise ValueError(f"the statement has 2^{log_n} rows, but {height} were given")
+    with advance(challenger) as state:
+        answer = _line(statement.air, "stark_prove", value, _PROOF_LEN, state)
+        return read_answer(answer, lambda made: Proof.from_value(made["proof"]))
 
 
-def verify(statement: Statement, proof: Union[Proof, Mapping[str, Any]]) -> None:
-    """Returns where the proof of the statement is accepted, and raises otherwise.
+def verify(
+    statement: Statement,
+    proof: Union[Proof, Mapping[str, Any]],
+    *,
+    challenger: Optional[Challenger] = None,
+) -> None:
+    """Returns None if the proof of the statement is accepted; raises otherwise.
 
-    The statement is the caller's own; nothing but the proof may be a stranger's. In its place may
-    stand the value of JSON that it has in a text.
+    The statement is the caller's own; only the proof may be a stranger's. The proof may also be its
+    JSON value, as `json.loads` returns it.
+
+    A challenger must have absorbed what the prover's had, and ends in the prover's state; unchanged
+    if this raises. Without one, the proof starts from a challenger that has absorbed nothing.
     """
     read = proof if isinstance(proof, Proof) else Proof.from_value(proof)
     verified = {"air_digest": statement.air.digest(), "log_n": statement.log_n, "verified": True}
-    told = line_of_proof(statement.to_json(), read.to_json(), _VERDICT_LEN)
-    if told != compact(verified):
-        raise RuntimeError(f"the library returned {told!r}")
+    texts = statement.to_json(), read.to_json()
+    with advance(challenger) as state:
+        answer = line("stark_verify", *texts, room=_VERDICT_LEN, state=state)
+        if answer != compact(verified):
+            raise unexpected(answer)
 
 
 def check_text(text: Text) -> None:
-    """Returns where the rows in a text satisfy its AIR, and raises otherwise, as the program's
-    `check`."""
-    line("stark_check", text, _VERDICT_LEN)
+    """Returns None if the rows in a text satisfy its AIR; raises otherwise. The text is an input of
+    the program's `check`."""
+    answer = line("stark_check", text, room=_VERDICT_LEN)
+    if answer != _SATISFIED:
+        raise unexpected(answer)
 
 
 def prove_text(text: Text) -> str:
     """A statement with its proof, as the program's `prove` writes them."""
-    return line("stark_prove", text, _PROOF_LEN)
+    return line("stark_prove", text, room=_PROOF_LEN)
 
 
 def verify_text(statement: Text, proof: Text) -> None:
-    """Returns where the proof of the statement is accepted, and raises otherwise. The statement is
-    an input of the program's `verify` without its proof. Of one that can't be read `path` names the
-    text, `statement` or `proof`."""
-    line_of_proof(statement, proof, _VERDICT_LEN)
+    """Returns None if the proof of the statement is accepted; raises otherwise. The statement is an
+    input of the program's `verify` without its proof. If one can't be read, `path` names the text,
+    `statement` or `proof`."""
+    answer = line("stark_verify", statement, proof, room=_VERDICT_LEN)
+    if not _VERIFIED.fullmatch(answer):
+        raise unexpected(answer)
 
 
-def _line(air: Air, name: str, value: Dict[str, Any], room: int) -> str:
+def _line(
+    air: Air, name: str, value: Dict[str, Any], room: int, state: Optional[State] = None
+) -> str:
     """The line of a call. An error has the name of the constraint that doesn't hold."""
     try:
-        return line(name, compact(value), room)
+        return line(name, compact(value), room=room, state=state)
     except Unsatisfied as found:
-        name_of = air.constraint_names[found.constraint]
+        names = dict(enumerate(air.constraint_names))
+        name_of = names.get(found.constraint)
         raise Unsatisfied(found.row, found.constraint, name_of) from None

@@ -69,10 +69,10 @@ impl Air {
     ///
     /// # Panics
     ///
-    /// Where there is no column.
+    /// If there is no column.
     #[must_use]
     pub fn new(width: usize, num_public_values: usize) -> Self {
-        assert!(width > 0, "an AIR has a column at least");
+        assert!(width > 0, "an AIR needs at least one column");
         let mut parts = Parts::default();
         let columns = (0..width).map(Node::Local);
         let next = (0..width).map(Node::Next);
@@ -94,7 +94,7 @@ impl Air {
     ///
     /// # Panics
     ///
-    /// Where there is no such column.
+    /// If there is no such column.
     pub fn column(&self, index: usize) -> Expr<'_> {
         assert!(index < self.width, "there are {} columns", self.width);
         self.expr(Node::Local(index))
@@ -104,7 +104,7 @@ impl Air {
     ///
     /// # Panics
     ///
-    /// Where there is no such column.
+    /// If there is no such column.
     pub fn next_column(&self, index: usize) -> Expr<'_> {
         assert!(index < self.width, "there are {} columns", self.width);
         self.expr(Node::Next(index))
@@ -114,7 +114,7 @@ impl Air {
     ///
     /// # Panics
     ///
-    /// Where there is no such public value.
+    /// If there is no such public value.
     pub fn public_value(&self, index: usize) -> Expr<'_> {
         let count = self.num_public_values;
         assert!(index < count, "there are {count} public values");
@@ -125,7 +125,7 @@ impl Air {
     ///
     /// # Panics
     ///
-    /// Where there are more or fewer columns than that.
+    /// If there are more or fewer columns than that.
     #[must_use]
     pub fn columns<const N: usize>(&self) -> [Expr<'_>; N] {
         assert_eq!(N, self.width, "the number of columns");
@@ -136,7 +136,7 @@ impl Air {
     ///
     /// # Panics
     ///
-    /// Where there are more or fewer columns than that.
+    /// If there are more or fewer columns than that.
     #[must_use]
     pub fn next_columns<const N: usize>(&self) -> [Expr<'_>; N] {
         assert_eq!(N, self.width, "the number of columns");
@@ -147,7 +147,7 @@ impl Air {
     ///
     /// # Panics
     ///
-    /// Where there are more or fewer public values than that.
+    /// If there are more or fewer public values than that.
     #[must_use]
     pub fn public_values<const N: usize>(&self) -> [Expr<'_>; N] {
         assert_eq!(N, self.num_public_values, "the number of public values");
@@ -158,7 +158,7 @@ impl Air {
     ///
     /// # Panics
     ///
-    /// Where that number isn't a power of two.
+    /// If that number isn't a power of two.
     pub fn periodic(&self, entries: &[u32]) -> Expr<'_> {
         let period = entries.len();
         assert!(
@@ -201,7 +201,7 @@ impl Air {
         self.place(When::Transition)
     }
 
-    /// The text of JSON that stands for the AIR, by ascending keys.
+    /// The JSON text of the AIR, with ascending keys.
     #[must_use]
     pub fn to_json(&self) -> String {
         let kept = self.parts.borrow().kept();
@@ -494,7 +494,7 @@ impl<'a> Operand<'a> for Expr<'a> {
     fn of(self, air: &'a Air) -> Expr<'a> {
         assert!(
             std::ptr::eq(self.air, air),
-            "the expression is one of another AIR"
+            "the expression belongs to another AIR"
         );
         self
     }
@@ -508,7 +508,7 @@ macro_rules! operations {
 
             fn $call(self, other: Self) -> Self {
                 let air = self.air;
-                assert!(std::ptr::eq(air, other.air), "the expressions are of different AIRs");
+                assert!(std::ptr::eq(air, other.air), "the expressions belong to different AIRs");
                 air.combined(Operation::$operation, self.value(), other.value())
             }
         }

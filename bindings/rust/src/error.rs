@@ -30,7 +30,7 @@ impl Error {
     /// missing or unknown; empty for the whole.
     ///
     /// It is `None` of a refusal. The library names no key, so this crate reads a text once more to
-    /// find it; where it finds another fault first, the path is `None` too.
+    /// find it; if it finds another fault first, the path is `None` too.
     pub fn path(&self) -> Option<&str> {
         self.path.as_deref()
     }

@@ -4,6 +4,7 @@ use crate::json::Value;
 use crate::{Error, Refusal};
 use std::collections::BTreeMap;
 use std::fmt;
+use std::str::FromStr;
 
 /// The number of elements of the base field.
 pub const ORDER: u32 = (1 << 31) - 1;
@@ -11,7 +12,8 @@ pub const ORDER: u32 = (1 << 31) - 1;
 /// An element of the challenge field: its three coefficients, each below `2^31 - 1`.
 pub type Cubic = [u32; 3];
 
-/// A digest, of 32 bytes. It is written as 64 hexadecimal digits.
+/// A digest of 32 bytes, such as a commitment. It is written as 64 hexadecimal digits, in lower
+/// case, and parsed from digits in either case.
 #[derive(Clone, Copy, PartialEq, Eq, Hash)]
 pub struct Digest(pub [u8; 32]);
 
@@ -29,6 +31,30 @@ impl fmt::Debug for Digest {
     }
 }
 
+impl AsRef<[u8]> for Digest {
+    fn as_ref(&self) -> &[u8] {
+        &self.0
+    }
+}
+
+impl FromStr for Digest {
+    type Err = Error;
+
+    /// The digest that 64 hexadecimal digits stand for, or [`Refusal::BadHex`].
+    fn from_str(digits: &str) -> Result<Digest, Error> {
+        let wrong = Error::of_form(Refusal::BadHex);
+        if digits.len() != 64 || !digits.bytes().all(|mark| mark.is_ascii_hexdigit()) {
+            return Err(wrong);
+        }
+        let mut bytes = [0; 32];
+        for (place, byte) in bytes.iter_mut().enumerate() {
+            let pair = &digits[2 * place..2 * place + 2];
+            *byte = u8::from_str_radix(pair, 16).map_err(|_| wrong.clone())?;
+        }
+        Ok(Digest(bytes))
+    }
+}
+
 /// What has a form in JSON.
 pub(crate) trait Form: Sized {
     /// What a value stands for.
@@ -43,19 +69,32 @@ pub(crate) trait Form: Sized {
     }
 }
 
-/// The members of an object that has exactly these keys, or which key is missing or unknown.
+/// A member of the object in a line that the library returned. The caller's input isn't at fault if
+/// it can't be read.
+pub(crate) fn member<T: Form>(line: &str, key: &str) -> Result<T, Refusal> {
+    match Value::read(line) {
+        Some(Value::Object(members)) => {
+            let value = members.get(key).ok_or(Refusal::Unknown)?;
+            T::read(value).map_err(|_| Refusal::Unknown)
+        }
+        _ => Err(Refusal::Unknown),
+    }
+}
+
+/// The members of an object that has exactly these keys, or which key is missing or unknown. Each
+/// key is listed with whether it is optional.
 pub(crate) fn members<'a>(
     value: &'a Value,
-    due: &[(&str, bool)],
+    keys: &[(&str, bool)],
 ) -> Result<&'a BTreeMap<String, Value>, Error> {
     let Value::Object(members) = value else {
         return Err(Error::of_form(Refusal::WrongKind));
     };
     let is_missing = |(key, optional): &&(&str, bool)| !optional && !members.contains_key(*key);
-    if let Some((key, _)) = due.iter().find(is_missing) {
+    if let Some((key, _)) = keys.iter().find(is_missing) {
         return Err(Error::of_form(Refusal::MissingKey).under(key));
     }
-    let is_unknown = |key: &&String| due.iter().all(|(name, _)| name != key);
+    let is_unknown = |key: &&String| keys.iter().all(|(name, _)| name != key);
     match members.keys().find(is_unknown) {
         Some(key) => Err(Error::of_form(Refusal::UnknownKey).under(key)),
         None => Ok(members),
@@ -104,18 +143,10 @@ impl Form for u32 {
 
 impl Form for Digest {
     fn read(value: &Value) -> Result<Digest, Error> {
-        let Value::Text(text) = value else {
-            return Err(Error::of_form(Refusal::WrongKind));
-        };
-        if text.len() != 64 || !text.bytes().all(|mark| mark.is_ascii_hexdigit()) {
-            return Err(Error::of_form(Refusal::BadHex));
+        match value {
+            Value::Text(digits) => digits.parse(),
+            _ => Err(Error::of_form(Refusal::WrongKind)),
         }
-        let mut bytes = [0; 32];
-        for (place, byte) in bytes.iter_mut().enumerate() {
-            let pair = &text[2 * place..2 * place + 2];
-            *byte = u8::from_str_radix(pair, 16).map_err(|_| Error::of_form(Refusal::BadHex))?;
-        }
-        Ok(Digest(bytes))
     }
 
     fn write(&self) -> Value {
@@ -167,8 +198,8 @@ macro_rules! records {
 
         impl $crate::form::Form for $name {
             fn read(value: &$crate::json::Value) -> Result<$name, $crate::Error> {
-                let due = [$((stringify!($member), false)),*];
-                let members = $crate::form::members(value, &due)?;
+                let keys = [$((stringify!($member), false)),*];
+                let members = $crate::form::members(value, &keys)?;
                 Ok($name {$(
                     $member: $crate::form::Form::read(&members[stringify!($member)])
                         .map_err(|error| error.under(stringify!($member)))?,
@@ -188,7 +219,7 @@ macro_rules! records {
 macro_rules! texts {
     ($($name:ident),*) => {$(
         impl $name {
-            /// What a text of JSON stands for.
+            /// The value with this JSON text.
             ///
             /// # Errors
             ///
@@ -197,7 +228,7 @@ macro_rules! texts {
                 $crate::form::Form::read_text(text)
             }
 
-            /// The text of JSON that stands for this, compact and with ascending keys.
+            /// The JSON text, compact and with ascending keys.
             pub fn to_json(&self) -> String {
                 $crate::form::Form::write(self).text()
             }

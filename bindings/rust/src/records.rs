@@ -215,4 +215,12 @@ records! {
     }
 }
 
-texts!(Params, Statement, Proof, Matrix);
+texts!(
+    Params,
+    Statement,
+    Proof,
+    Matrix,
+    Claim,
+    ClaimedMatrix,
+    ClaimedBatch
+);

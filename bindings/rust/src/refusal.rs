@@ -20,7 +20,7 @@ macro_rules! refusals {
         pub enum Refusal {
             $($(#[$unreadable_doc])* $unreadable,)*
             $($(#[$refused_doc])* $refused,)*
-            /// This crate doesn't know the library's line: they don't belong together.
+            /// The library returned a line that it never should: crate and library don't fit.
             Unknown,
         }
 
@@ -182,7 +182,7 @@ refusals! {
 
 impl Refusal {
     // The refusal that a line of the library names, without its newline.
-    pub(crate) fn told(line: &str) -> Refusal {
+    pub(crate) fn of_line(line: &str) -> Refusal {
         let said = |refusal: &&Refusal| refusal.line() == line;
         Refusal::ALL
             .iter()

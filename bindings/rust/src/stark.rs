@@ -13,14 +13,12 @@
 //! # Ok::<(), stark::Error>(())
 //! ```
 //!
-//! A prover and a verifier write the statement each for itself: nothing but the proof is the
-//! other's.
+//! A prover and a verifier each write the statement themselves; only the proof is passed on.
 
 use crate::air::listed;
-use crate::form::{records, texts, Cubic, Digest, Form};
-use crate::json::Value;
+use crate::form::{member, records, texts, Cubic, Digest};
 use crate::library::Call;
-use crate::{Air, Params, Refusal};
+use crate::{Air, Challenger, Params, Refusal};
 use std::fmt;
 
 // More bytes than a verdict and each refusal have.
@@ -54,8 +52,7 @@ impl<'a> Statement<'a> {
         }
     }
 
-    /// The text of JSON that stands for the statement: an input of `stark_tool verify` without its
-    /// proof.
+    /// The JSON text of the statement: an input of `stark_tool verify` without its proof.
     #[must_use]
     pub fn to_json(&self) -> String {
         format!(
@@ -107,27 +104,37 @@ pub enum Error {
         /// The name that the constraint was given.
         name: Option<String>,
     },
+    /// The number of rows isn't the statement's, `2^log_n`.
+    HeightMismatch {
+        /// The binary logarithm of the statement's number of rows.
+        log_n: usize,
+        /// How many rows were given.
+        height: usize,
+    },
     /// The input is refused or can't be read.
     Other(crate::Error),
 }
 
 impl fmt::Display for Error {
     fn fmt(&self, formatter: &mut fmt::Formatter<'_>) -> fmt::Result {
-        let (row, constraint, name) = match self {
-            Error::Other(error) => return error.fmt(formatter),
+        match self {
             Error::Unsatisfied {
                 row,
                 constraint,
                 name,
-            } => (row, constraint, name),
-        };
-        write!(
-            formatter,
-            "unsatisfied: row {row} fails constraint {constraint}"
-        )?;
-        match name {
-            Some(name) => write!(formatter, " ({name})"),
-            None => Ok(()),
+            } => {
+                let name = name.as_ref().map(|name| format!(" ({name})"));
+                let name = name.unwrap_or_default();
+                write!(
+                    formatter,
+                    "unsatisfied: row {row} fails constraint {constraint}{name}"
+                )
+            }
+            Error::HeightMismatch { log_n, height } => write!(
+                formatter,
+                "the statement has 2^{log_n} rows, but {height} were given"
+            ),
+            Error::Other(error) => error.fmt(formatter),
         }
     }
 }
@@ -144,8 +151,8 @@ impl<T: Into<crate::Error>> From<T> for Error {
 ///
 /// # Errors
 ///
-/// [`Error::Unsatisfied`] where a constraint doesn't hold at a row, and otherwise the first reason
-/// why the rows are refused.
+/// [`Error::Unsatisfied`] if a constraint doesn't hold at a row, and otherwise the first reason why
+/// the rows are refused.
 pub fn check(air: &Air, rows: &[impl AsRef<[u32]>], public_values: &[u32]) -> Result<(), Error> {
     let text = format!(
         "{{\"air\":{},\"public_values\":{},\"rows\":{}}}",
@@ -161,20 +168,67 @@ pub fn check(air: &Air, rows: &[impl AsRef<[u32]>], public_values: &[u32]) -> Re
 
 /// Proves a statement, of rows that satisfy its AIR.
 ///
+/// The proof starts from a challenger that has absorbed nothing.
+///
 /// # Errors
 ///
-/// As for [`check`].
-///
-/// # Panics
-///
-/// Where the number of rows isn't the statement's.
+/// As for [`check`], and [`Error::HeightMismatch`] if the number of rows isn't the statement's.
 pub fn prove(statement: &Statement<'_>, rows: &[impl AsRef<[u32]>]) -> Result<Proof, Error> {
+    proof(Call::StarkProve, statement, rows)
+}
+
+/// Proves as [`prove`] does, from the caller's challenger, for [`verify_from`].
+///
+/// The challenger must have absorbed what the application requires, such as its name, and ends in
+/// the state that the proof leaves.
+///
+/// # Errors
+///
+/// As for [`prove`]. The challenger is then unchanged.
+pub fn prove_from(
+    statement: &Statement<'_>,
+    rows: &[impl AsRef<[u32]>],
+    challenger: &mut Challenger,
+) -> Result<Proof, Error> {
+    challenger.advance(|state| proof(Call::StarkProveFrom(state), statement, rows))
+}
+
+/// Verifies a proof of a statement. The statement is the caller's own; only the proof may be a
+/// stranger's. The proof starts from a challenger that has absorbed nothing.
+///
+/// # Errors
+///
+/// The first reason why the proof is refused.
+pub fn verify(statement: &Statement<'_>, proof: &Proof) -> Result<(), Error> {
+    verdict(Call::StarkVerify(&proof.to_json()), statement)
+}
+
+/// Verifies a proof of a statement as [`verify`] does, from the caller's challenger.
+///
+/// The challenger must have absorbed what the prover's had, and ends in the prover's state.
+///
+/// # Errors
+///
+/// As for [`verify`]. The challenger is then unchanged.
+pub fn verify_from(
+    statement: &Statement<'_>,
+    proof: &Proof,
+    challenger: &mut Challenger,
+) -> Result<(), Error> {
+    let proof = proof.to_json();
+    challenger.advance(|state| verdict(Call::StarkVerifyFrom(&proof, state), statement))
+}
+
+// The proof that a call of a prover makes.
+fn proof(
+    call: Call<'_>,
+    statement: &Statement<'_>,
+    rows: &[impl AsRef<[u32]>],
+) -> Result<Proof, Error> {
     let (log_n, height) = (statement.log_n, rows.len());
-    let is_height = height.is_power_of_two() && height.trailing_zeros() as usize == log_n;
-    assert!(
-        is_height,
-        "the statement is of 2^{log_n} rows, and there are {height}"
-    );
+    if !height.is_power_of_two() || height.trailing_zeros() as usize != log_n {
+        return Err(Error::HeightMismatch { log_n, height });
+    }
     let text = format!(
         "{{\"air\":{},\"params\":{},\"public_values\":{},\"rows\":{}}}",
         statement.air.to_json(),
@@ -182,24 +236,13 @@ pub fn prove(statement: &Statement<'_>, rows: &[impl AsRef<[u32]>]) -> Result<Pr
         listed(statement.public_values.iter()),
         lists(rows)
     );
-    let line = line(statement.air, Call::StarkProve, &text, PROOF_LEN)?;
-    match Value::read(&line) {
-        Some(Value::Object(members)) if members.contains_key("proof") => {
-            Proof::read(&members["proof"]).map_err(|_| Refusal::Unknown.into())
-        }
-        _ => Err(Refusal::Unknown.into()),
-    }
+    let line = line(statement.air, call, &text, PROOF_LEN)?;
+    Ok(member(&line, "proof")?)
 }
 
-/// Verifies a proof of a statement. The statement is the caller's own; nothing but the proof may be
-/// a stranger's.
-///
-/// # Errors
-///
-/// The first reason why the proof is refused.
-pub fn verify(statement: &Statement<'_>, proof: &Proof) -> Result<(), Error> {
-    let (text, proof) = (statement.to_json(), proof.to_json());
-    let line = line(statement.air, Call::StarkVerify(&proof), &text, VERDICT_LEN)?;
+// What a call of a verifier says of its proof of the statement.
+fn verdict(call: Call<'_>, statement: &Statement<'_>) -> Result<(), Error> {
+    let line = line(statement.air, call, &statement.to_json(), VERDICT_LEN)?;
     let (digest, log_n) = (statement.air.digest(), statement.log_n);
     if line == format!("{{\"air_digest\":\"{digest}\",\"log_n\":{log_n},\"verified\":true}}") {
         Ok(())
@@ -232,12 +275,12 @@ fn unsatisfied(air: &Air, line: &str) -> Option<Error> {
 // The refusal that a line names, with the text that can't be read where it names one.
 fn unread(line: &str) -> crate::Error {
     let named = |text| line.strip_prefix(&format!("{{\"text\":\"{text}\","));
-    let told = ["statement", "proof"].map(|text| Some((text, named(text)?)));
-    match told.into_iter().flatten().next() {
+    let found = ["statement", "proof"].map(|text| Some((text, named(text)?)));
+    match found.into_iter().flatten().next() {
         Some((text, rest)) => {
-            crate::Error::of_form(Refusal::told(&format!("{{{rest}"))).under(text)
+            crate::Error::of_form(Refusal::of_line(&format!("{{{rest}"))).under(text)
         }
-        None => Refusal::told(line).into(),
+        None => Refusal::of_line(line).into(),
     }
 }
 

@@ -1,6 +1,6 @@
 //! AIRs, and the calls of the STARK: held against the stored proofs of `examples/starks`.
 
-use circle::{stark, Air, Expr, Params, Refusal, ORDER};
+use circle::{stark, Air, Challenger, Expr, Params, Refusal, ORDER};
 use std::fs;
 
 const STARKS: &str = concat!(env!("CARGO_MANIFEST_DIR"), "/../../examples/starks");
@@ -152,14 +152,14 @@ fn places_are_written() {
 }
 
 #[test]
-#[should_panic(expected = "the expressions are of different AIRs")]
+#[should_panic(expected = "the expressions belong to different AIRs")]
 fn expressions_of_different_airs() {
     let (one, other) = (Air::new(1, 0), Air::new(1, 0));
     let _ = one.column(0) + other.column(0);
 }
 
 #[test]
-#[should_panic(expected = "the expression is one of another AIR")]
+#[should_panic(expected = "the expression belongs to another AIR")]
 fn an_expression_of_another_air() {
     let (one, other) = (Air::new(1, 0), Air::new(1, 0));
     one.every_row().assert_zero(other.column(0));
@@ -172,9 +172,18 @@ fn a_period_of_three_rows() {
 }
 
 #[test]
-#[should_panic(expected = "the statement is of 2^3 rows, and there are 4")]
 fn rows_of_another_height() {
-    let _ = stark::prove(&statement(&fibonacci()), &ROWS[..4]);
+    let (air, before) = (fibonacci(), Challenger::from_bytes([7; 32]));
+    for height in [0, 4, 7] {
+        let (rows, mut challenger) = (&ROWS[..height], before.clone());
+        let error = stark::Error::HeightMismatch { log_n: 3, height };
+        let told = format!("the statement has 2^3 rows, but {height} were given");
+        assert_eq!(error.to_string(), told);
+        let made = stark::prove_from(&statement(&air), rows, &mut challenger);
+        assert_eq!(made, Err(error.clone()));
+        assert_eq!(challenger, before);
+        assert_eq!(stark::prove(&statement(&air), rows), Err(error));
+    }
 }
 
 #[test]

@@ -2,7 +2,8 @@
 
 use circle::{prove, prove_text, shape, values, verify, verify_as_stated};
 use circle::{
-    Claim, ClaimedBatch, Coefficients, Digest, Matrix, Params, Proof, Refusal, Statement,
+    Claim, ClaimedBatch, ClaimedMatrix, Coefficients, Digest, Matrix, Params, Proof, Refusal,
+    Statement,
 };
 use std::fs;
 
@@ -243,4 +244,38 @@ fn a_statement_that_is_built() {
             "a5".repeat(32)
         )
     );
+}
+
+#[test]
+fn digests_are_parsed() {
+    let digest = Digest([0xa5; 32]);
+    for digits in ["a5".repeat(32), "A5".repeat(32)] {
+        assert_eq!(digits.parse(), Ok(digest));
+    }
+    assert_eq!(digest.to_string().parse(), Ok(digest));
+    let long = "a5".repeat(33);
+    for wrong in [&long, &long[3..], &long[2..].replace("5a", "g5"), "", "é"] {
+        let error = wrong.parse::<Digest>().expect_err("no digest");
+        assert_eq!((error.name(), error.path()), ("BadHex", Some("")));
+    }
+}
+
+#[test]
+fn parts_of_a_statement_are_read_and_written() {
+    let (statement, ..) = records(&stored("sevens", "verify"));
+    let batch = &statement.batches[0];
+    assert_eq!(
+        ClaimedBatch::from_json(&batch.to_json()).as_ref(),
+        Ok(batch)
+    );
+    let matrix = &batch.matrices[0];
+    assert_eq!(
+        ClaimedMatrix::from_json(&matrix.to_json()).as_ref(),
+        Ok(matrix)
+    );
+    let claim = &matrix.points[0];
+    assert_eq!(claim.to_json(), "{\"point\":[0,1,0],\"values\":[[7,0,0]]}");
+    assert_eq!(Claim::from_json(&claim.to_json()).as_ref(), Ok(claim));
+    let error = Claim::from_json("{\"point\":[0,1],\"values\":[]}").expect_err("no claim");
+    assert_eq!((error.name(), error.path()), ("WrongKind", Some("point")));
 }
