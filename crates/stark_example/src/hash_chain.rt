@@ -160,7 +160,7 @@ impl Builder {
 }
 
 /// What the constraints read: a row, the state of the next row, and what both sides know.
-#[derive(Drop)]
+#[derive(Clone, Copy)]
 struct Nodes {
     state: Exprs,
     cubes: Exprs,
@@ -205,9 +205,8 @@ fn squares_and_fifths(
     Ok((squares, fifths))
 }
 
-/// The constraints. A row has the state, and the cubes that fifth powers are of.
-fn constraints(alloc: Global) -> Result<Air<Val>> {
-    let mut builder = Builder::new(alloc);
+/// Appends the constraints.
+fn require_rounds(alloc: Global, builder: &mut Builder) -> Result<()> {
     let nodes = Nodes::read(alloc, &mut builder.air)?;
     let sums = sums(alloc, &mut builder.air, &nodes.state)?;
     let (squares, fifths) = squares_and_fifths(&mut builder.air, &sums, &nodes.cubes)?;
@@ -217,6 +216,13 @@ fn constraints(alloc: Global) -> Result<Air<Val>> {
         builder.air.assert_eq(Place::Every, nodes.cubes[i], cube)?;
         builder.require_next(&nodes, after[i], i)?;
     }
+    Ok(())
+}
+
+/// The constraints. A row has the state, and the cubes that fifth powers are of.
+fn constraints(alloc: Global) -> Result<Air<Val>> {
+    let mut builder = Builder::new(alloc);
+    require_rounds(alloc, &mut builder)?;
     Ok(builder.air.finish()?)
 }
 

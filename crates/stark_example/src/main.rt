@@ -11,16 +11,30 @@ mod hash_chain;
 mod stark;
 
 use anyhow::Result;
-use circle_presets::scheme;
+use circle_presets::{Scheme, scheme};
+use std::alloc::{AllocError, Global};
+
+fn run_fibonacci(alloc: Global, pcs: &Scheme) -> Result<[u8; 32]> {
+    let proof = fibonacci::prove(alloc, pcs)?;
+    fibonacci::verify(alloc, pcs, &proof)
+}
+
+fn run_hash_chain(alloc: Global, pcs: &Scheme) -> Result<[u8; 32]> {
+    let proof = hash_chain::prove(alloc, pcs)?;
+    hash_chain::verify(alloc, pcs, &proof)
+}
+
+/// The 64 hexadecimal digits of a digest.
+fn digits(alloc: Global, digest: [u8; 32]) -> Result<String, AllocError> {
+    hex::encode(alloc, digest.as_slice())
+}
 
 fn main(rt: HostRuntime) -> Result<()> {
     let alloc = rt.alloc();
     let pcs = scheme(stark::PARAMETERS);
-    let proof = fibonacci::prove(alloc, &pcs)?;
-    let digest = fibonacci::verify(alloc, &pcs, &proof)?;
-    println!(rt; "verified {}", hex::encode(alloc, digest.as_slice())?)?;
-    let proof = hash_chain::prove(alloc, &pcs)?;
-    let digest = hash_chain::verify(alloc, &pcs, &proof)?;
-    println!(rt; "verified {}", hex::encode(alloc, digest.as_slice())?)?;
+    let digest = run_fibonacci(alloc, &pcs)?;
+    println!(rt; "verified {}", digits(alloc, digest)?)?;
+    let digest = run_hash_chain(alloc, &pcs)?;
+    println!(rt; "verified {}", digits(alloc, digest)?)?;
     Ok(())
 }
