@@ -21,6 +21,7 @@ returns-clause-complete c =
 pub returns-clause-reason : goal.returns-clause-reason
 returns-clause-reason c =
     if_err _ _ c.verify_from.result
-    (λ e h. unverified-new _ (λ (i : Input). i.proof) _ c.args.input (state_of c.new-challenger.result)
+    (λ e h. unverified-new _ (λ (i : Input). i.proof) _ c.args.input
+    (state_of c.new-challenger.result)
     (state_of c.verify_from.new.challenger) c.new-challenger.ensures e h)
     c.verify_from.ensures.reason
