@@ -5,7 +5,7 @@ use circle_commit::RowMajorMatrix;
 use circle_field::Field;
 use circle_presets::Val;
 use std::alloc::Global;
-use std::test::Fail;
+use std::process::Abort;
 use test_batches::batches::elements;
 use test_batches::parameters::{Numbers, SMALL};
 
@@ -44,6 +44,9 @@ pub(crate) const FIBONACCI: Case = Case {
     numbers: SMALL,
 };
 
+/// Why a test ends that memory is refused.
+pub(crate) const MEMORY: &str = "memory is refused";
+
 // The number of columns.
 const WIDTH: usize = 2;
 
@@ -76,8 +79,13 @@ pub(crate) fn air_of(alloc: Global, rule: Rule) -> Result<Air<Val>, AirError> {
     }
 }
 
+/// The elements of these numbers.
+pub(crate) fn elements_of(rt: &impl Abort, alloc: Global, numbers: &[u64]) -> Vec<Val> {
+    elements(alloc, numbers).expect(rt, MEMORY)
+}
+
 /// The rows of a trace.
-pub(crate) fn rows_of(alloc: Global, case: &Case) -> Result<RowMajorMatrix<Val>, Fail> {
-    let entries = elements(alloc, case.entries)?;
-    Ok(RowMajorMatrix::try_new(entries, case.width).ok_or("the rows differ in length")?)
+pub(crate) fn rows_of(rt: &impl Abort, alloc: Global, case: &Case) -> RowMajorMatrix<Val> {
+    let entries = elements_of(rt, alloc, case.entries);
+    RowMajorMatrix::try_new(entries, case.width).expect(rt, "the rows differ in length")
 }

@@ -1,12 +1,12 @@
 //! What is changed of a proof, of its statement or of the parameters.
-use crate::calls::{Given, Text, proved, verdict_on};
-use crate::cases::{FIBONACCI, Rule};
+use crate::calls::{Given, Text, honest, proof_of, verdict_on};
+use crate::cases::{FIBONACCI, MEMORY, Rule};
 use circle_challenger::{CanObserve, CanSample, GrindingChallenger};
 use circle_field::{Cubic, Field, Mersenne31};
 use circle_presets::{Challenge, ChallengeMmcs, Val, ValMmcs};
 use circle_stark::{StarkOpenedValues, StarkProof};
-use std::alloc::{AllocError, Global};
-use std::test::Fail;
+use std::alloc::Global;
+use std::process::Abort;
 use test_batches::parameters::{SMALL, scheme};
 
 type Proof = StarkProof<Val, Challenge, ValMmcs, ChallengeMmcs>;
@@ -20,6 +20,8 @@ pub(crate) enum Change {
     PublicValues(&'static [u64]),
     /// The final polynomial has this logarithm of its length.
     LogFinalPolyLen(usize),
+    /// The length of the list of chunks.
+    Chunks(Length),
     Length(List, Length),
     /// The first element of a list is raised by one.
     Raised(List),
@@ -35,8 +37,6 @@ pub(crate) enum Change {
 pub(crate) enum List {
     TraceLocal,
     TraceNext,
-    /// The lists of the chunks.
-    Chunks,
     /// The values of a chunk.
     Chunk(usize),
 }
@@ -66,42 +66,43 @@ pub(crate) enum Phase {
 }
 
 // Changes the length of a list, which this item makes longer.
-fn resize<T: Drop>(list: &mut Vec<T>, length: Length, item: T) -> Result<(), AllocError> {
+fn resize<T: Drop>(rt: &impl Abort, list: &mut Vec<T>, length: Length, item: T) {
     match length {
         Length::Shorter => drop(list.pop()),
-        Length::Longer => list.push(item)?,
+        Length::Longer => list.push(item).expect(rt, MEMORY),
         Length::Empty => list.clear(),
     }
-    Ok(())
 }
 
-// The values in a list of elements, the first chunk's of the list of chunks.
-fn values(opened: &mut StarkOpenedValues<Cubic>, list: List) -> Result<&mut Vec<Cubic>, Fail> {
+// The values in a list.
+fn values<'a>(
+    rt: &impl Abort,
+    opened: &'a mut StarkOpenedValues<Cubic>,
+    list: List,
+) -> &'a mut Vec<Cubic> {
     match list {
-        List::TraceLocal => Ok(&mut opened.trace_local),
-        List::TraceNext => Ok(&mut opened.trace_next),
-        List::Chunks => Ok(opened.quotient_chunks.first_mut().ok_or("a chunk")?),
-        List::Chunk(chunk) => Ok(opened.quotient_chunks.get_mut(chunk).ok_or("the chunk")?),
+        List::TraceLocal => &mut opened.trace_local,
+        List::TraceNext => &mut opened.trace_next,
+        List::Chunk(chunk) => {
+            let values = opened.quotient_chunks.get_mut(chunk);
+            values.expect(rt, "there is no such chunk")
+        }
     }
 }
 
 fn change_length(
-    alloc: Global,
+    rt: &impl Abort,
     opened: &mut StarkOpenedValues<Cubic>,
     list: List,
     length: Length,
-) -> Result<(), Fail> {
-    match list {
-        List::Chunks => resize(&mut opened.quotient_chunks, length, Vec::new(alloc))?,
-        list => resize(values(opened, list)?, length, Cubic::ZERO)?,
-    }
-    Ok(())
+) {
+    resize(rt, values(rt, opened, list), length, Cubic::ZERO);
 }
 
-fn raise(opened: &mut StarkOpenedValues<Cubic>, list: List) -> Result<(), Fail> {
-    let element = values(opened, list)?.first_mut().ok_or("an element")?;
+fn raise(rt: &impl Abort, opened: &mut StarkOpenedValues<Cubic>, list: List) {
+    let first = values(rt, opened, list).first_mut();
+    let element = first.expect(rt, "there is no element");
     *element = *element + Cubic::ONE;
-    Ok(())
 }
 
 fn change_root(proof: &mut Proof, root: Root) {
@@ -113,27 +114,19 @@ fn change_root(proof: &mut Proof, root: Root) {
     digest[0] = digest[0].wrapping_add(1);
 }
 
-fn change_witness(proof: &mut Proof, phase: Phase) -> Result<(), Fail> {
+fn change_witness(rt: &impl Abort, proof: &mut Proof, phase: Phase) {
     let opening = &mut proof.opening_proof;
+    let rounds = &mut opening.fri_proof.commit_pow_witnesses;
     let witness = match phase {
         Phase::Batch => &mut opening.batch_pow_witness,
-        Phase::Commit => opening
-            .fri_proof
-            .commit_pow_witnesses
-            .first_mut()
-            .ok_or("a round")?,
+        Phase::Commit => rounds.first_mut().expect(rt, "there is no round"),
         Phase::Query => &mut opening.fri_proof.pow_witness,
     };
     *witness = Mersenne31::ONE;
-    Ok(())
 }
 
 // Changes a proof, its statement or the parameters.
-fn apply(
-    alloc: Global,
-    given: &mut Given<Cubic, ChallengeMmcs>,
-    change: Change,
-) -> Result<(), Fail> {
+fn apply(rt: &impl Abort, alloc: Global, given: &mut Given<Cubic, ChallengeMmcs>, change: Change) {
     let opened = &mut given.proof.opened_values;
     match change {
         Change::Nothing => {}
@@ -141,38 +134,31 @@ fn apply(
         Change::LogN(log_n) => given.log_n = log_n,
         Change::PublicValues(public_values) => given.public_values = public_values,
         Change::LogFinalPolyLen(log) => given.pcs.fri_params.log_final_poly_len = log,
-        Change::Length(list, length) => change_length(alloc, opened, list, length)?,
-        Change::Raised(list) => raise(opened, list)?,
+        Change::Chunks(length) => {
+            resize(rt, &mut opened.quotient_chunks, length, Vec::new(alloc));
+        }
+        Change::Length(list, length) => change_length(rt, opened, list, length),
+        Change::Raised(list) => raise(rt, opened, list),
         Change::ChunksSwapped => opened.quotient_chunks.reverse(),
         Change::Digest(root) => change_root(&mut given.proof, root),
-        Change::Witness(phase) => change_witness(&mut given.proof, phase)?,
+        Change::Witness(phase) => change_witness(rt, &mut given.proof, phase),
     }
-    Ok(())
-}
-
-// Fibonacci numbers proved, with this change.
-fn changed<C>(
-    alloc: Global,
-    change: Change,
-    prover: &mut C,
-) -> Result<Given<Cubic, ChallengeMmcs>, Fail>
-where
-    C: CanSample<Val> + GrindingChallenger<Val> + CanObserve<[u8; 32]>,
-{
-    let mut given = proved(alloc, scheme(SMALL), &FIBONACCI, prover)?;
-    apply(alloc, &mut given, change)?;
-    Ok(given)
 }
 
 /// The text of the verdict on Fibonacci numbers that are proved and then changed.
 pub(crate) fn verdict_after<C>(
+    rt: &impl Abort,
     alloc: Global,
     change: Change,
     prover: &mut C,
     verifier: &mut C,
-) -> Result<Text, Fail>
+) -> Text
 where
     C: CanSample<Val> + GrindingChallenger<Val> + CanObserve<[u8; 32]>,
 {
-    verdict_on(alloc, &changed(alloc, change, prover)?, verifier)
+    let pcs = scheme(SMALL);
+    let proof = proof_of(rt, alloc, &pcs, &FIBONACCI, prover).expect(rt, "there is no proof");
+    let mut given = honest(pcs, &FIBONACCI, proof);
+    apply(rt, alloc, &mut given, change);
+    verdict_on(rt, alloc, &given, verifier)
 }

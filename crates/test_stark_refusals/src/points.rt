@@ -1,5 +1,5 @@
 //! Chosen points: `prove` and `verify` by a challenger that samples given elements.
-use crate::calls::{Given, answer_to, proved, verdict_on};
+use crate::calls::{Answer, Text, honest, proof_of, told, verdict_on};
 use crate::cases::{FIBONACCI, Rule};
 use crate::changes::{Change, verdict_after};
 use crate::chosen::Chosen;
@@ -62,16 +62,16 @@ const TRACES: &[OfTrace] = &[
 fn assert_proved(rt: &impl Abort, alloc: Global, row: &OfTrace) -> Result<(), Fail> {
     let (elements, expected, when) = *row;
     let mut challenger = Chosen::new(elements);
-    let answer = answer_to::<Cubic, ChallengeMmcs, Chosen>(
+    let answer: Answer<Cubic, ChallengeMmcs> = proof_of(
+        rt,
         alloc,
         &scheme(SMALL),
         &FIBONACCI,
         &mut challenger,
-    )?;
-    expect_text(answer.as_str(), expected)?;
+    );
     let is_at_point = challenger.sampled() == OF_CHALLENGES;
     assert!(rt; is_at_point == matches!(when, When::AtPoint), "{expected}");
-    Ok(())
+    expect_text(told(answer).as_str(), expected)
 }
 
 #[test]
@@ -101,20 +101,28 @@ const OF_WORK: &[([usize; 3], &str)] = &[
 #[test]
 fn phases_in_which_no_witness_passes(rt: HostRuntime) -> Result<(), Fail> {
     for (work, expected) in OF_WORK {
-        let pcs = scheme(Numbers {
-            work: *work,
-            ..SMALL
-        });
-        let mut challenger = Stubborn { taken: 0 };
-        let answer = answer_to::<Cubic, ChallengeMmcs, Stubborn>(
-            rt.alloc(),
-            &pcs,
-            &FIBONACCI,
-            &mut challenger,
-        )?;
-        expect_text(answer.as_str(), expected)?;
+        assert_no_witness(&rt, rt.alloc(), *work, expected)?;
     }
     Ok(())
+}
+
+// Asserts what `prove` returns by proofs of work of these difficulties, where no witness passes.
+fn assert_no_witness(
+    rt: &impl Abort,
+    alloc: Global,
+    work: [usize; 3],
+    expected: &str,
+) -> Result<(), Fail> {
+    let pcs = scheme(Numbers { work, ..SMALL });
+    let mut challenger = Stubborn { taken: 0 };
+    let answer: Answer<Cubic, ChallengeMmcs> = proof_of(
+        rt,
+        alloc,
+        &pcs,
+        &FIBONACCI,
+        &mut challenger,
+    );
+    expect_text(told(answer).as_str(), expected)
 }
 
 /// What is changed of a proof by the coordinate 2, what is sampled, what `verify` returns and when.
@@ -148,14 +156,13 @@ const PROOFS: &[OfProof] = &[
 fn assert_verified(rt: &impl Abort, alloc: Global, row: &OfProof) -> Result<(), Fail> {
     let (change, elements, expected, when) = *row;
     let (mut prover, mut verifier) = (Chosen::new(TWO), Chosen::new(elements));
-    let verdict = verdict_after(alloc, change, &mut prover, &mut verifier)?;
-    expect_text(verdict.as_str(), expected)?;
+    let verdict = verdict_after(rt, alloc, change, &mut prover, &mut verifier);
     let due = match when {
         When::AtPoint => OF_CHALLENGES,
         When::AtEnd => prover.sampled(),
     };
     assert!(rt; verifier.sampled() == due, "{expected}");
-    Ok(())
+    expect_text(verdict.as_str(), expected)
 }
 
 #[test]
@@ -182,6 +189,22 @@ fn lists() -> CirclePcs<Val, ValMmcs, ListMmcs> {
     CirclePcs::new(ValMmcs::new(), parameters(SMALL, ListMmcs))
 }
 
+// `prove` of Fibonacci numbers over the quadratic extension.
+fn proved_over_quadratic(
+    rt: &impl Abort,
+    alloc: Global,
+    challenger: &mut Chosen,
+) -> Answer<Quadratic, ListMmcs> {
+    proof_of(rt, alloc, &lists(), &FIBONACCI, challenger)
+}
+
+// The text of what `verify` returns over the quadratic extension of an honest proof.
+fn verdict_over_quadratic(rt: &impl Abort, alloc: Global, challenger: &mut Chosen) -> Text {
+    let answer = proved_over_quadratic(rt, alloc, &mut Chosen::new(TWOS));
+    let proof = answer.expect(rt, "there is no proof");
+    verdict_on(rt, alloc, &honest(lists(), &FIBONACCI, proof), challenger)
+}
+
 // Asserts what `prove` and `verify` return over the quadratic extension.
 fn assert_over_quadratic(
     rt: &impl Abort,
@@ -189,25 +212,12 @@ fn assert_over_quadratic(
     elements: [u64; 3],
     expected: &str,
 ) -> Result<(), Fail> {
-    let mut prover = Chosen::new(elements);
-    let answer = answer_to::<Quadratic, ListMmcs, Chosen>(
-        alloc,
-        &lists(),
-        &FIBONACCI,
-        &mut prover,
-    )?;
-    expect_text(answer.as_str(), expected)?;
-    let honest: Given<Quadratic, ListMmcs> = proved(
-        alloc,
-        lists(),
-        &FIBONACCI,
-        &mut Chosen::new(TWOS),
-    )?;
-    let mut verifier = Chosen::new(elements);
-    let verdict = verdict_on(alloc, &honest, &mut verifier)?;
-    expect_text(verdict.as_str(), expected)?;
+    let (mut prover, mut verifier) = (Chosen::new(elements), Chosen::new(elements));
+    let answer = told(proved_over_quadratic(rt, alloc, &mut prover));
+    let verdict = verdict_over_quadratic(rt, alloc, &mut verifier);
     assert!(rt; verifier.sampled() == prover.sampled());
-    Ok(())
+    expect_text(answer.as_str(), expected)?;
+    expect_text(verdict.as_str(), expected)
 }
 
 #[test]

@@ -1,14 +1,12 @@
 //! What `prove` and `prove_and_verify` return of traces, and the states of both challengers.
-use crate::calls::{Given, Text, proof_of, told, verdict_on};
-use crate::cases::{Case, FIBONACCI, LOG_N, Rule, air_of, rows_of};
+use crate::calls::{Text, honest, proof_of, told, verdict_on};
+use crate::cases::{Case, FIBONACCI, MEMORY, Rule, air_of, elements_of, rows_of};
 use circle_air::Place;
 use circle_challenger::Sha256Challenger;
-use circle_presets::Scheme;
 use circle_stark::{StarkTrace, prove_and_verify};
 use std::alloc::Global;
 use std::process::Abort;
 use std::test::Fail;
-use test_batches::batches::elements;
 use test_batches::openings::expect_text;
 use test_batches::parameters::{Numbers, SMALL, scheme};
 
@@ -164,40 +162,33 @@ const UNSATISFIED: &[Row] = &[
 // The text of what `verify` returns of the proof of a trace, or of what `prove` returns where there
 // is none.
 fn outcome(
+    rt: &impl Abort,
     alloc: Global,
     case: &Case,
     prover: &mut Sha256Challenger,
     verifier: &mut Sha256Challenger,
-) -> Result<Text, Fail> {
+) -> Text {
     let pcs = scheme(case.numbers);
-    match proof_of(alloc, &pcs, case, prover)? {
-        Ok(proof) => {
-            let given = Given {
-                pcs,
-                rule: case.rule,
-                log_n: LOG_N,
-                public_values: case.public_values,
-                proof,
-            };
-            verdict_on(alloc, &given, verifier)
-        }
-        Err(refusal) => Ok(Text::of(refusal)),
+    match proof_of(rt, alloc, &pcs, case, prover) {
+        Ok(proof) => verdict_on(rt, alloc, &honest(pcs, case, proof), verifier),
+        Err(refusal) => Text::of(refusal),
     }
 }
 
 // The text of what `prove_and_verify` returns of a trace, and whether both challengers are in one
 // state.
-fn outcome_of_both(alloc: Global, pcs: &Scheme, case: &Case) -> Result<(Text, bool), Fail> {
-    let air = air_of(alloc, case.rule)?;
-    let public_values = elements(alloc, case.public_values)?;
+fn outcome_of_both(rt: &impl Abort, alloc: Global, case: &Case) -> (Text, bool) {
+    let air = air_of(alloc, case.rule).expect(rt, MEMORY);
+    let public_values = elements_of(rt, alloc, case.public_values);
     let trace = StarkTrace {
         air: &air,
-        rows: rows_of(alloc, case)?,
+        rows: rows_of(rt, alloc, case),
         public_values: &public_values,
     };
+    let pcs = scheme(case.numbers);
     let (mut prover, mut verifier) = (Sha256Challenger::new(), Sha256Challenger::new());
-    let run = prove_and_verify(alloc, pcs, trace, &mut prover, &mut verifier);
-    Ok((told(run), prover == verifier))
+    let run = prove_and_verify(alloc, &pcs, trace, &mut prover, &mut verifier);
+    (told(run), prover == verifier)
 }
 
 // What `prove_and_verify` is to return where the verdict on the proof, or the refusal to make one, is
@@ -210,17 +201,24 @@ fn of_both(expected: &str) -> Text {
     }
 }
 
-// Asserts what `prove` and then `verify` return of a trace, and `prove_and_verify`, and that both
-// challengers are in one state: where there is no proof, in that in which they were.
+// Asserts what `prove` and then `verify` return of a trace, and that both challengers are in one
+// state: where there is no proof, in that in which they were.
 fn assert_outcome(rt: &impl Abort, alloc: Global, (case, expected): &Row) -> Result<(), Fail> {
     let (mut prover, mut verifier) = (Sha256Challenger::new(), Sha256Challenger::new());
-    let text = outcome(alloc, case, &mut prover, &mut verifier)?;
-    expect_text(text.as_str(), expected)?;
+    let text = outcome(rt, alloc, case, &mut prover, &mut verifier);
     assert!(rt; prover == verifier, "{expected}");
-    let (text, is_one_state) = outcome_of_both(alloc, &scheme(case.numbers), case)?;
-    expect_text(text.as_str(), of_both(expected).as_str())?;
+    expect_text(text.as_str(), expected)
+}
+
+// Asserts that of `prove_and_verify`.
+fn assert_outcome_of_both(
+    rt: &impl Abort,
+    alloc: Global,
+    (case, expected): &Row,
+) -> Result<(), Fail> {
+    let (text, is_one_state) = outcome_of_both(rt, alloc, case);
     assert!(rt; is_one_state, "{expected}");
-    Ok(())
+    expect_text(text.as_str(), of_both(expected).as_str())
 }
 
 #[test]
@@ -228,6 +226,7 @@ fn traces(rt: HostRuntime) -> Result<(), Fail> {
     for rows in [HONEST, OF_OTHER_SHAPES, BY_OTHER_NUMBERS, UNSATISFIED] {
         for row in rows {
             assert_outcome(&rt, rt.alloc(), row)?;
+            assert_outcome_of_both(&rt, rt.alloc(), row)?;
         }
     }
     Ok(())

@@ -66,15 +66,15 @@ const OF_LENGTHS: &[Row] = &[
         "the trace has 2 columns, and 0 values of the next row are opened",
     ),
     (
-        Change::Length(List::Chunks, Length::Shorter),
+        Change::Chunks(Length::Shorter),
         "the quotient has 2 chunks, and 1 are opened",
     ),
     (
-        Change::Length(List::Chunks, Length::Longer),
+        Change::Chunks(Length::Longer),
         "the quotient has 2 chunks, and 3 are opened",
     ),
     (
-        Change::Length(List::Chunks, Length::Empty),
+        Change::Chunks(Length::Empty),
         "the quotient has 2 chunks, and 0 are opened",
     ),
     (
@@ -152,11 +152,10 @@ fn assert_verdict(
     is_as_it_was: bool,
 ) -> Result<(), Fail> {
     let (mut prover, mut verifier) = (Sha256Challenger::new(), Sha256Challenger::new());
-    let verdict = verdict_after(alloc, *change, &mut prover, &mut verifier)?;
-    expect_start(verdict.as_str(), &[*expected])?;
+    let verdict = verdict_after(rt, alloc, *change, &mut prover, &mut verifier);
     let is_kept = verifier == Sha256Challenger::new();
     assert!(rt; is_kept == is_as_it_was, "{expected}");
-    Ok(())
+    expect_start(verdict.as_str(), &[*expected])
 }
 
 #[test]
