@@ -1,6 +1,6 @@
 //! Calls on AIRs.
-use crate::told::{Stage, Told, before, told};
-use anyhow::{Result, bail};
+use crate::told::{Stage, Told, told, unfit};
+use anyhow::Result;
 use circle_air::{Air, AirBuilder, AirError, Place, check_constraints};
 use circle_airs::{fibonacci_air, fibonacci_trace, permutation_air, permutation_trace};
 use circle_commit::{Matrix, RowMajorMatrix};
@@ -19,58 +19,45 @@ pub fn doubling(alloc: Global) -> Result<Air<Mersenne31>, AirError> {
 
 /// The calls of `AirBuilder`.
 pub fn build(alloc: Global, stage: Stage) -> Result<Told> {
-    if stage == Stage::Before {
-        return Ok(before());
-    }
-    Ok(told(doubling(alloc).map(|air| air.max_constraint_degree())))
+    stage.begin()?;
+    Ok(told(doubling(alloc)?.max_constraint_degree()))
 }
 
 /// `check_constraints`.
 pub fn check(alloc: Global, stage: Stage) -> Result<Told> {
     let air = doubling(alloc)?;
-    let entries = [1, 2, 4, 8].map(|n| Mersenne31::from_u64(n));
-    let rows = RowMajorMatrix::new_col(Vec::from_slice(alloc, &entries)?);
+    let rows = RowMajorMatrix::new_col(Mersenne31::powers(alloc, Mersenne31::TWO, 4)?);
     if rows.width() != air.width() || air.num_public_values() != 0 {
-        bail!("the rows don't fit the AIR");
+        return unfit("the rows don't fit the AIR");
     }
-    if stage == Stage::Before {
-        return Ok(before());
-    }
-    let found = check_constraints(alloc, &air, &rows, &[]);
-    Ok(told(found.map(|violation| violation.is_none())))
+    stage.begin()?;
+    let violation = check_constraints(alloc, &air, &rows, &[])?;
+    Ok(told(violation.is_none()))
 }
 
 /// `fibonacci_air`.
 pub fn fibonacci(alloc: Global, stage: Stage) -> Result<Told> {
-    if stage == Stage::Before {
-        return Ok(before());
-    }
-    let air: Result<Air<Mersenne31>, AirError> = fibonacci_air(alloc);
-    Ok(told(air.map(|air| air.nodes().len())))
+    stage.begin()?;
+    let air: Air<Mersenne31> = fibonacci_air(alloc)?;
+    Ok(told(air.nodes().len()))
 }
 
 /// `fibonacci_trace`.
 pub fn fibonacci_rows(alloc: Global, stage: Stage) -> Result<Told> {
-    if stage == Stage::Before {
-        return Ok(before());
-    }
-    let trace = fibonacci_trace(alloc, Mersenne31::ONE, Mersenne31::ONE, 8);
-    Ok(told(trace.map(|trace| trace.rows.height())))
+    stage.begin()?;
+    let trace = fibonacci_trace(alloc, Mersenne31::ONE, Mersenne31::ONE, 8)?;
+    Ok(told(trace.rows.height()))
 }
 
 /// `permutation_air`.
 pub fn permutation(alloc: Global, stage: Stage) -> Result<Told> {
-    if stage == Stage::Before {
-        return Ok(before());
-    }
-    Ok(told(permutation_air(alloc).map(|air| air.nodes().len())))
+    stage.begin()?;
+    Ok(told(permutation_air(alloc)?.nodes().len()))
 }
 
 /// `permutation_trace`.
 pub fn permutation_rows(alloc: Global, stage: Stage) -> Result<Told> {
-    if stage == Stage::Before {
-        return Ok(before());
-    }
-    let trace = permutation_trace(alloc, &[Mersenne31::ONE; 8], 4);
-    Ok(told(trace.map(|trace| trace.rows.height())))
+    stage.begin()?;
+    let trace = permutation_trace(alloc, &[Mersenne31::ONE; 8], 4)?;
+    Ok(told(trace.rows.height()))
 }

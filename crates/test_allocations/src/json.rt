@@ -1,6 +1,6 @@
 //! Calls on JSON.
 use crate::plane::cubic;
-use crate::told::{Stage, Told, before, told, told_elements};
+use crate::told::{Stage, Told, digest, told};
 use anyhow::Result;
 use circle_air::{AirParts, Constraint, Node, Place};
 use circle_field::{Cubic, Field, Mersenne31};
@@ -11,10 +11,9 @@ use std::alloc::{AllocError, Global};
 pub fn elements(alloc: Global, stage: Stage) -> Result<Told> {
     let elements = vec![in alloc; cubic([2, 7, 1]), cubic([0, 1, 0])]?;
     let value = elements.to_json(alloc)?;
-    if stage == Stage::Before {
-        return Ok(before());
-    }
-    Ok(told_elements(Vec::<Cubic>::from_json(alloc, &value)))
+    stage.begin()?;
+    let elements = Vec::<Cubic>::from_json(alloc, &value)?;
+    Ok(told(digest(&elements)))
 }
 
 // The parts of an AIR with a node of each form, which needs no test.
@@ -38,19 +37,14 @@ fn parts(alloc: Global) -> Result<AirParts<Mersenne31>, AllocError> {
 /// `JsonForm::from_json` of the parts of an AIR.
 pub fn air(alloc: Global, stage: Stage) -> Result<Told> {
     let value = parts(alloc)?.to_json(alloc)?;
-    if stage == Stage::Before {
-        return Ok(before());
-    }
-    let read = AirParts::<Mersenne31>::from_json(alloc, &value);
-    Ok(told(read.map(|parts| parts.nodes.len())))
+    stage.begin()?;
+    let parts = AirParts::<Mersenne31>::from_json(alloc, &value)?;
+    Ok(told(parts.nodes.len()))
 }
 
 /// `JsonForm::to_json` of the parts of an AIR.
 pub fn air_written(alloc: Global, stage: Stage) -> Result<Told> {
     let parts = parts(alloc)?;
-    if stage == Stage::Before {
-        return Ok(before());
-    }
-    let value = parts.to_json(alloc);
-    Ok(told(value.map(|value| value.is_object())))
+    stage.begin()?;
+    Ok(told(parts.to_json(alloc)?.is_object()))
 }

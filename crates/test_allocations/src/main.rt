@@ -39,10 +39,13 @@ fn stage(word: &str) -> Option<Stage> {
 
 // Prints the line of a call, and says whether there is such a call.
 fn report(rt: &HostRuntime, stage: Stage, name: &str) -> Result<bool> {
-    let Some(told) = told_of(rt.alloc(), stage, name) else {
+    let Some(answer) = told_of(rt.alloc(), stage, name) else {
         return Ok(false);
     };
-    println!(rt; "{name}: {}", told?.as_str())?;
+    match answer {
+        Ok(told) => println!(rt; "{name}: {}", told.as_str())?,
+        Err(refusal) => println!(rt; "{name}: {refusal}")?,
+    }
     Ok(true)
 }
 

@@ -3,8 +3,8 @@ ghost use Rattle.std.specs.Prelude.{◌≡◌, ◌≤◌, ◌^◌, IsTrue, IfOk,
 ghost use Rattle.circle_domain.specs.Clear.{IsClearOf};
 ghost use Rattle.circle_domain.specs.Domain.{IsGenuineDomain, log_size, points_of};
 
-use crate::told::{Stage, Told, before, digest, told, told_elements, with_number};
-use anyhow::{Result, bail};
+use crate::told::{Stage, Told, digest, told, unfit, with_number};
+use anyhow::Result;
 use circle_commit::{
     Matrix, PeriodicEvaluator, PeriodicLdeTable, PolynomialSpace, RowMajorMatrix, is_power_of_two,
 };
@@ -35,39 +35,39 @@ pub fn column(alloc: Global, height: u64) -> Result<Rows, AllocError> {
     Ok(RowMajorMatrix::new_col(elements(alloc, height)?))
 }
 
+// The elements of these numbers.
+fn of_numbers(numbers: [u64; 3]) -> [Mersenne31; 3] {
+    numbers.map(|n| Mersenne31::from_u64(n))
+}
+
 /// The element with these coefficients.
 pub fn cubic(coefficients: [u64; 3]) -> Cubic {
-    Cubic::from_coefficients(&coefficients.map(|n| Mersenne31::from_u64(n)))
+    Cubic::from_coefficients(&of_numbers(coefficients))
 }
 
 /// `Field::powers`.
 pub fn powers(alloc: Global, stage: Stage) -> Result<Told> {
-    if stage == Stage::Before {
-        return Ok(before());
-    }
+    stage.begin()?;
     let base = Mersenne31::from_u64(3);
-    Ok(told_elements(Mersenne31::powers(alloc, base, 8)))
+    Ok(told(digest(&Mersenne31::powers(alloc, base, 8)?)))
 }
 
 /// `batch_multiplicative_inverse`.
 pub fn inverses(alloc: Global, stage: Stage) -> Result<Told> {
-    let [one, two, five] = [1, 2, 5].map(|n| Mersenne31::from_u64(n));
+    let [one, two, five] = of_numbers([1, 2, 5]);
     if one.is_zero() || two.is_zero() || five.is_zero() {
-        bail!("an element is 0");
+        return unfit("an element is 0");
     }
-    if stage == Stage::Before {
-        return Ok(before());
-    }
-    Ok(told_elements(batch_multiplicative_inverse(alloc, &[one, two, five])))
+    stage.begin()?;
+    let inverses = batch_multiplicative_inverse(alloc, &[one, two, five])?;
+    Ok(told(digest(&inverses)))
 }
 
 /// `circle_basis`.
 pub fn basis(alloc: Global, stage: Stage) -> Result<Told> {
     let point = Point::<Mersenne31>::generator(5);
-    if stage == Stage::Before {
-        return Ok(before());
-    }
-    Ok(told_elements(circle_basis(alloc, point, 3)))
+    stage.begin()?;
+    Ok(told(digest(&circle_basis(alloc, point, 3)?)))
 }
 
 // Whether a domain is genuine, and in the group.
@@ -89,10 +89,10 @@ fn column_on(alloc: Global, domain: Domain, height: u64) -> Result<Rows>
 {
     let rows = column(alloc, height)?;
     if !is_genuine(domain) {
-        bail!("the domain is not genuine");
+        return unfit("the domain is not genuine");
     }
     if rows.height() != domain.size() {
-        bail!("there is not one row for each point");
+        return unfit("there is not one row for each point");
     }
     Ok(rows)
 }
@@ -100,16 +100,9 @@ fn column_on(alloc: Global, domain: Domain, height: u64) -> Result<Rows>
 /// `CircleEvaluations::interpolate` of a column on this domain.
 pub fn interpolate(alloc: Global, stage: Stage, domain: Domain) -> Result<Told> {
     let rows = column_on(alloc, domain, 8)?;
-    if stage == Stage::Before {
-        return Ok(before());
-    }
-    let coefficients = CircleEvaluations::from_natural_order(domain, rows).interpolate(alloc);
-    Ok(told(coefficients.map(|rows| digest(rows.values()))))
-}
-
-// What is told of values on a domain.
-fn told_values(values: Result<CircleEvaluations<Mersenne31, Rows>, AllocError>) -> Told {
-    told(values.map(|values| digest(values.to_cfft_order().values())))
+    stage.begin()?;
+    let coefficients = CircleEvaluations::from_natural_order(domain, rows).interpolate(alloc)?;
+    Ok(told(digest(coefficients.values())))
 }
 
 /// `CircleEvaluations::evaluate` on this domain.
@@ -117,35 +110,32 @@ pub fn evaluate(alloc: Global, stage: Stage, domain: Domain) -> Result<Told> {
     let coefficients = column(alloc, 4)?;
     let height = coefficients.height();
     if domain.log_n() == 0 || domain.log_n() > 31 || !is_power_of_two(height) {
-        bail!("the height is no power of two");
+        return unfit("the height is no power of two");
     }
     if height > domain.size() {
-        bail!("there are more coefficients than points");
+        return unfit("there are more coefficients than points");
     }
-    if stage == Stage::Before {
-        return Ok(before());
-    }
-    Ok(told_values(CircleEvaluations::evaluate(alloc, domain, coefficients)))
+    stage.begin()?;
+    let values = CircleEvaluations::evaluate(alloc, domain, coefficients)?;
+    Ok(told(digest(values.to_cfft_order().values())))
 }
 
 /// `CircleEvaluations::extrapolate` of a column on this domain to another.
 pub fn extrapolate(alloc: Global, stage: Stage, domain: Domain, target: Domain) -> Result<Told> {
     let rows = column_on(alloc, domain, 4)?;
     if domain.log_n() > target.log_n() || target.log_n() > 31 {
-        bail!("the target is smaller, or past the group");
+        return unfit("the target is smaller, or past the group");
     }
-    if stage == Stage::Before {
-        return Ok(before());
-    }
-    let values = CircleEvaluations::from_natural_order(domain, rows);
-    Ok(told_values(values.extrapolate(alloc, target)))
+    stage.begin()?;
+    let values = CircleEvaluations::from_natural_order(domain, rows).extrapolate(alloc, target)?;
+    Ok(told(digest(values.to_cfft_order().values())))
 }
 
 /// `CircleEvaluations::evaluate_at_point`.
 pub fn evaluate_at_point(alloc: Global, stage: Stage) -> Result<Told> {
     match Point::from_projective_line(cubic([0, 1, 0])) {
         Some(at) => value_at(alloc, stage, Domain::standard(3), at),
-        None => bail!("the point is at infinity"),
+        None => unfit("the point is at infinity"),
     }
 }
 
@@ -158,13 +148,11 @@ fn value_at<EF: ExtensionField<Mersenne31>>(
 ) -> Result<Told> {
     let rows = column_on(alloc, domain, 8)?;
     if !domain.is_clear_of(at) {
-        bail!("the domain is not clear of the point");
+        return unfit("the domain is not clear of the point");
     }
-    if stage == Stage::Before {
-        return Ok(before());
-    }
+    stage.begin()?;
     let values = CircleEvaluations::from_natural_order(domain, rows);
-    Ok(told_elements(values.evaluate_at_point(alloc, at)))
+    Ok(told(digest(&values.evaluate_at_point(alloc, at)?)))
 }
 
 // Whether each point of a coset is clear of a domain.
@@ -187,16 +175,14 @@ fn is_clear_of_each<F: ComplexExtendable>(domain: CircleDomain<F>, coset: Circle
 /// `PolynomialSpace::selectors_on_coset` of these domains.
 pub fn selectors(alloc: Global, stage: Stage, domain: Domain, coset: Domain) -> Result<Told> {
     if !is_genuine(domain) {
-        bail!("the domain is not genuine");
+        return unfit("the domain is not genuine");
     }
     if coset.log_n() == 0 || coset.log_n() > 31 || !is_clear_of_each(domain, coset) {
-        bail!("the domain is not clear of the coset");
+        return unfit("the domain is not clear of the coset");
     }
-    if stage == Stage::Before {
-        return Ok(before());
-    }
-    let selectors = domain.selectors_on_coset(alloc, coset);
-    Ok(told(selectors.map(|columns| digest(&columns.is_transition))))
+    stage.begin()?;
+    let selectors = domain.selectors_on_coset(alloc, coset)?;
+    Ok(told(digest(&selectors.is_transition)))
 }
 
 /// `PolynomialSpace::split_evals`.
@@ -205,13 +191,11 @@ pub fn split_evals(alloc: Global, stage: Stage) -> Result<Told> {
     let rows = column(alloc, 8)?;
     let count = 2;
     if rows.height() != domain.size() || !is_power_of_two(count) {
-        bail!("there is not one row for each point");
+        return unfit("there is not one row for each point");
     }
-    if stage == Stage::Before {
-        return Ok(before());
-    }
-    let parts = domain.split_evals(alloc, count, rows);
-    Ok(told(parts.map(|parts| digest_of_parts(&parts))))
+    stage.begin()?;
+    let parts = domain.split_evals(alloc, count, rows)?;
+    Ok(told(digest_of_parts(&parts)))
 }
 
 // A number that the entries of the parts come to.
@@ -227,11 +211,9 @@ fn digest_of_parts(parts: &[Rows]) -> u32 {
 pub fn eval_on_lde(alloc: Global, stage: Stage) -> Result<Told> {
     let columns = vec![in alloc; elements(alloc, 2)?, elements(alloc, 4)?]?;
     let (trace, extension) = (Domain::standard(2), Domain::standard(3));
-    if stage == Stage::Before {
-        return Ok(before());
-    }
-    let table = CirclePeriodicEvaluator::eval_on_lde(alloc, &columns, &trace, &extension);
-    Ok(told(table.map(|table| digest_of_table(&table))))
+    stage.begin()?;
+    let table = CirclePeriodicEvaluator::eval_on_lde(alloc, &columns, &trace, &extension)?;
+    Ok(told(digest_of_table(&table)))
 }
 
 // A number that the entries of a table's last column come to.

@@ -3,14 +3,14 @@
 ghost use Rattle.std.specs.Prelude.{◌≡◌};
 
 use crate::plane::{Domain, Rows, column, cubic};
-use crate::told::{Stage, Told, before, told};
-use anyhow::{Result, bail};
+use crate::told::{Stage, Told, shown, told, unfit};
+use anyhow::Result;
 use circle_challenger::{CanObserve, CanSample, Sha256Challenger};
 use circle_commit::{FriParameters, OpenedValues, OpeningRequest};
 use circle_field::{Cubic, Mersenne31};
 use circle_json::JsonForm;
 use circle_presets::{Claim, Commitment, Known, Proof, ProverData, Request, Scheme};
-use p3_circle::{BatchAtPoints, ProverError, claims_of, heights_match_domains};
+use p3_circle::{BatchAtPoints, claims_of, heights_match_domains};
 use std::alloc::{AllocError, Global};
 
 type Opened = (OpenedValues<Cubic>, Proof);
@@ -60,27 +60,14 @@ fn batch(alloc: Global) -> Result<Vec<(Domain, Rows)>, AllocError> {
     Ok(vec![in alloc; (low, column(alloc, 4)?), (tall, column(alloc, 16)?)]?)
 }
 
-// What committing to the matrices returns; none before the call.
-fn committing(
-    alloc: Global,
-    stage: Stage,
-) -> Result<Option<Result<(Commitment, ProverData), ProverError>>> {
+/// The commitment to the matrices, and what the prover keeps.
+pub fn committed(alloc: Global, stage: Stage) -> Result<(Commitment, ProverData)> {
     let evaluations = batch(alloc)?;
     if !heights_match_domains(&evaluations) {
-        bail!("there is not one row for each point");
+        return unfit("there is not one row for each point");
     }
-    if stage == Stage::Before {
-        return Ok(None);
-    }
-    Ok(Some(scheme().commit(alloc, evaluations)))
-}
-
-/// The commitment to the matrices, and what the prover keeps.
-pub fn committed(alloc: Global) -> Result<(Commitment, ProverData)> {
-    match committing(alloc, Stage::Whole)? {
-        Some(answer) => Ok(answer?),
-        None => bail!("the call was not made"),
-    }
+    stage.begin()?;
+    Ok(scheme().commit(alloc, evaluations)?)
 }
 
 /// The first number of a digest.
@@ -90,10 +77,8 @@ pub fn number(digest: &[u8; 32]) -> u32 {
 
 /// `CirclePcs::commit`.
 pub fn commit(alloc: Global, stage: Stage) -> Result<Told> {
-    Ok(match committing(alloc, stage)? {
-        Some(answer) => told(answer.map(|committed| number(&committed.0))),
-        None => before(),
-    })
+    let (commitment, _) = committed(alloc, stage)?;
+    Ok(told(number(&commitment)))
 }
 
 /// The request to open the matrices.
@@ -109,36 +94,28 @@ pub fn requests(alloc: Global, data: &ProverData) -> Result<Vec<Request<'_>>, Al
     Ok(vec![in alloc; request]?)
 }
 
-// What opening the matrices returns; none before the call.
-fn opening(
+// Opens the matrices, after a test of what that requires.
+fn open_requests(
     alloc: Global,
-    stage: Stage,
-    commitment: &Commitment,
-    data: &ProverData,
-) -> Result<Option<Result<Opened, ProverError>>> {
+    requests: Vec<Request<'_>>,
+    challenger: &mut Sha256Challenger,
+) -> Result<Opened> {
     let pcs = scheme();
-    let requests = requests(alloc, data)?;
     if !pcs.have_heights_of_powers(&requests) {
-        bail!("a height is no power of two");
+        return unfit("a height is no power of two");
     }
-    let mut challenger = after_commitment(commitment);
-    if stage == Stage::Before {
-        return Ok(None);
-    }
-    Ok(Some(pcs.open(alloc, requests, &mut challenger)))
+    Ok(pcs.open(alloc, requests, challenger)?)
 }
 
 /// The opened values and the proof of them.
 pub fn opened(alloc: Global, commitment: &Commitment, data: &ProverData) -> Result<Opened> {
-    match opening(alloc, Stage::Whole, commitment, data)? {
-        Some(answer) => Ok(answer?),
-        None => bail!("the call was not made"),
-    }
+    let requests = requests(alloc, data)?;
+    open_requests(alloc, requests, &mut after_commitment(commitment))
 }
 
 // The number that a challenger draws which absorbs the values and the proof as JSON.
-fn number_of_opened(alloc: Global, opened: &Opened) -> Result<u32> {
-    let (values, proof) = opened;
+fn number_of(alloc: Global, opened: Result<Opened>) -> Result<u32> {
+    let (values, proof) = opened?;
     let mut challenger = Sha256Challenger::new();
     challenger.observe_bytes(values.to_json(alloc)?.to_string(alloc)?.as_bytes());
     challenger.observe_bytes(proof.to_json(alloc)?.to_string(alloc)?.as_bytes());
@@ -148,14 +125,14 @@ fn number_of_opened(alloc: Global, opened: &Opened) -> Result<u32> {
 
 /// `CirclePcs::open`, with what is opened of the same matrices afterwards.
 pub fn open(alloc: Global, stage: Stage) -> Result<Told> {
-    let (commitment, data) = committed(alloc)?;
-    let answer = match opening(alloc, stage, &commitment, &data)? {
-        None => return Ok(before()),
-        Some(_) if stage == Stage::After => return Ok(Told::of("after")),
-        Some(Ok(opened)) => told::<u32, ProverError>(Ok(number_of_opened(alloc, &opened)?)),
-        Some(Err(refusal)) => told::<u32, ProverError>(Err(refusal)),
-    };
-    let again = number_of_opened(alloc, &opened(alloc, &commitment, &data)?)?;
+    let (commitment, data) = committed(alloc, Stage::Whole)?;
+    let requests = requests(alloc, &data)?;
+    let mut challenger = after_commitment(&commitment);
+    stage.begin()?;
+    let first = open_requests(alloc, requests, &mut challenger);
+    stage.end()?;
+    let answer = shown(number_of(alloc, first));
+    let again = number_of(alloc, opened(alloc, &commitment, &data))?;
     Ok(Told::of(format_args!("{}, again {again}", answer.as_str())))
 }
 
@@ -179,22 +156,20 @@ pub fn claims(
 
 /// `CirclePcs::verify`.
 pub fn verify(alloc: Global, stage: Stage) -> Result<Told> {
-    let (commitment, data) = committed(alloc)?;
+    let (commitment, data) = committed(alloc, Stage::Whole)?;
     let (values, proof) = opened(alloc, &commitment, &data)?;
     let claims = claims(alloc, commitment, values)?;
     let mut challenger = after_commitment(&commitment);
-    if stage == Stage::Before {
-        return Ok(before());
-    }
-    let answer = scheme().verify(alloc, claims, &proof, &mut challenger);
-    Ok(told(answer.map(|()| "accepted")))
+    stage.begin()?;
+    scheme().verify(alloc, claims, &proof, &mut challenger)?;
+    Ok(told("accepted"))
 }
 
 /// `CirclePcs::round_trip` of one column at one point.
 pub fn round_trip(alloc: Global, stage: Stage) -> Result<Told> {
     let evaluations = vec![in alloc; (Domain::standard(2), column(alloc, 4)?)]?;
     if evaluations.len() != 1 || !heights_match_domains(&evaluations) {
-        bail!("there is not one row for each point");
+        return unfit("there is not one row for each point");
     }
     let [point, _] = points();
     let batch = BatchAtPoints {
@@ -203,9 +178,7 @@ pub fn round_trip(alloc: Global, stage: Stage) -> Result<Told> {
     };
     let batches = vec![in alloc; batch]?;
     let (mut prover, mut verifier) = (Sha256Challenger::new(), Sha256Challenger::new());
-    if stage == Stage::Before {
-        return Ok(before());
-    }
-    let answer = scheme().round_trip(alloc, batches, &mut prover, &mut verifier);
-    Ok(told(answer.map(|values| values.len())))
+    stage.begin()?;
+    let values = scheme().round_trip(alloc, batches, &mut prover, &mut verifier)?;
+    Ok(told(values.len()))
 }

@@ -1,9 +1,12 @@
-//! Where a run ends, and how a result is printed.
+//! Where a run ends, and what is printed of a call.
+ghost use Rattle.std.specs.Prelude.{IsErr};
+
+use anyhow::{Result, bail};
 use circle_field::{ExtensionField, Mersenne31};
 use std::fmt::{Display, InlineText};
 
 /// Where a run of a call ends.
-#[derive(Clone, Copy, PartialEq, Eq)]
+#[derive(Clone, Copy)]
 pub enum Stage {
     /// Right before the call.
     Before,
@@ -13,27 +16,45 @@ pub enum Stage {
     Whole,
 }
 
-/// What is told of a call, in memory of its own.
-pub type Told = InlineText<128>;
+impl Stage {
+    /// Comes right before the call. The error ends a run there, and its text is printed.
+    pub fn begin(self) -> Result<()> {
+        match self {
+            Stage::Before => bail!("before"),
+            Stage::After | Stage::Whole => Ok(()),
+        }
+    }
 
-/// What is told right before a call that leaves nothing.
-pub fn before() -> Told {
-    Told::of("before")
-}
-
-/// What is printed of a result: `Ok` and the value, or the text of the refusal.
-pub fn told<T: Display + Drop, E: Display + Drop>(answer: Result<T, E>) -> Told {
-    match answer {
-        Ok(value) => Told::of(format_args!("Ok {value}")),
-        Err(refusal) => Told::of(refusal),
+    /// Comes right after a call, where what follows allocates, with such an error.
+    pub fn end(self) -> Result<()> {
+        match self {
+            Stage::After => bail!("after"),
+            Stage::Before | Stage::Whole => Ok(()),
+        }
     }
 }
 
-/// What is printed of a result of elements.
-pub fn told_elements<F: ExtensionField<Mersenne31>, E: Display + Drop>(
-    answer: Result<Vec<F>, E>,
-) -> Told {
-    told(answer.map(|elements| digest(&elements)))
+/// The error with this text, where a call doesn't take what it would be given.
+pub fn unfit<T>(why: &'static str) -> Result<T>
+    ensures { IsErr result }
+{
+    bail!(why)
+}
+
+/// What is told of a call, in memory of its own.
+pub type Told = InlineText<128>;
+
+/// What is printed of a call that returned this.
+pub fn told<T: Display + Drop>(value: T) -> Told {
+    Told::of(format_args!("Ok {value}"))
+}
+
+/// What is printed of a result: that, or the text of the refusal.
+pub fn shown<T: Display + Drop>(answer: Result<T>) -> Told {
+    match answer {
+        Ok(value) => told(value),
+        Err(refusal) => Told::of(refusal),
+    }
 }
 
 /// What is told of calls that return these numbers.
@@ -42,7 +63,7 @@ pub fn told_numbers(numbers: &[u32]) -> Told {
     for number in numbers {
         sum = with_number(sum, *number);
     }
-    Told::of(format_args!("Ok {sum}"))
+    told(sum)
 }
 
 /// The lowest 32 bits of a number.

@@ -4,7 +4,7 @@ ghost use Rattle.circle_transcript.specs.Shape.{claimed_widths};
 ghost use Rattle.circle_transcript.specs.ShapeOf.{shape_of};
 
 use crate::plane::cubic;
-use crate::told::{Stage, Told, before, told};
+use crate::told::{Stage, Told, shown, told};
 use anyhow::Result;
 use circle_challenger::{CanSample, Sha256Challenger};
 use circle_commit::FriParameters;
@@ -48,11 +48,13 @@ fn drawn(challenger: &mut Sha256Challenger) -> u32 {
 // Begins a transcript of this shape, and aborts it.
 fn begin(
     alloc: Global,
+    stage: Stage,
     challenger: &mut Sha256Challenger,
     shape: CirclePcsShape,
-) -> Result<&'static str, AllocError>
+) -> Result<&'static str>
     requires final_poly { shape.log_final_poly_len ≤ 63 }
 {
+    stage.begin()?;
     let begun = CircleProverTranscript::<Sha256Challenger, Mersenne31, Cubic>::new(
         alloc, challenger, shape,
     )?;
@@ -64,11 +66,7 @@ fn begin(
 pub fn transcript(alloc: Global, stage: Stage) -> Result<Told> {
     let shape = shape(alloc)?;
     let mut challenger = Sha256Challenger::new();
-    let answer = if stage == Stage::Before {
-        before()
-    } else {
-        told(begin(alloc, &mut challenger, shape))
-    };
+    let answer = shown(begin(alloc, stage, &mut challenger, shape));
     let next = drawn(&mut challenger);
     Ok(Told::of(format_args!("{}, draws {next}", answer.as_str())))
 }
@@ -76,10 +74,8 @@ pub fn transcript(alloc: Global, stage: Stage) -> Result<Told> {
 /// `CirclePcsShape::has_seed_of`.
 pub fn has_seed_of(alloc: Global, stage: Stage) -> Result<Told> {
     let (one, other) = (shape(alloc)?, shape(alloc)?);
-    if stage == Stage::Before {
-        return Ok(before());
-    }
-    Ok(told(one.has_seed_of::<Mersenne31, Cubic>(alloc, &other)))
+    stage.begin()?;
+    Ok(told(one.has_seed_of::<Mersenne31, Cubic>(alloc, &other)?))
 }
 
 /// `prover_run` over one claim.
@@ -93,9 +89,7 @@ pub fn run(alloc: Global, stage: Stage) -> Result<Told> {
         final_poly: final_poly.as_slice(),
     };
     let mut challenger = Sha256Challenger::new();
-    if stage == Stage::Before {
-        return Ok(before());
-    }
-    let run = prover_run(alloc, &mut challenger, shape, claims.as_slice(), &messages);
-    Ok(told(run.map(|(draws, _)| draws.indices.len())))
+    stage.begin()?;
+    let (draws, _) = prover_run(alloc, &mut challenger, shape, claims.as_slice(), &messages)?;
+    Ok(told(draws.indices.len()))
 }

@@ -2,8 +2,8 @@
 ghost use Rattle.std.specs.Prelude.{◌≡◌, ◌≤◌, ◌^◌, IfOk};
 
 use crate::plane::cubic;
-use crate::told::{Stage, Told, before, digest, told, told_elements};
-use anyhow::{Result, bail};
+use crate::told::{Stage, Told, digest, shown, told, unfit};
+use anyhow::Result;
 use circle_commit::{Matrix, RowMajorMatrix};
 use circle_field::{Cubic, Mersenne31};
 use p3_circle::{extract_lambda, fold_x, fold_y};
@@ -18,18 +18,20 @@ fn word(alloc: Global, count: u64) -> Result<Vec<Cubic>, AllocError> {
     Ok(word)
 }
 
+// What is taken out of a codeword.
+fn taken(alloc: Global, stage: Stage, word: &mut [Cubic], log_size: usize) -> Result<u32> {
+    if log_size < 2 || log_size > 8 || word.len() != 1 << log_size {
+        return unfit("the length is none for the blowup");
+    }
+    stage.begin()?;
+    let lambda = extract_lambda::<Mersenne31, Cubic>(alloc, word, 1)?;
+    Ok(digest(&[lambda]))
+}
+
 /// `extract_lambda`, with the codeword that it leaves.
 pub fn lambda(alloc: Global, stage: Stage, log_size: usize) -> Result<Told> {
     let mut word = word(alloc, 8)?;
-    if log_size < 2 || log_size > 8 || word.len() != 1 << log_size {
-        bail!("the length is none for the blowup");
-    }
-    let answer = if stage == Stage::Before {
-        before()
-    } else {
-        let lambda = extract_lambda::<Mersenne31, Cubic>(alloc, &mut word, 1);
-        told(lambda.map(|lambda| digest(&[lambda])))
-    };
+    let answer = shown(taken(alloc, stage, &mut word, log_size));
     Ok(Told::of(format_args!("{}, left {}", answer.as_str(), digest(&word))))
 }
 
@@ -45,11 +47,11 @@ fn pairs(alloc: Global, log_height: usize) -> Result<Pairs>
 {
     let entries = word(alloc, 16)?;
     if entries.len() % 2 != 0 {
-        bail!("the rows are no pairs");
+        return unfit("the rows are no pairs");
     }
     let rows = RowMajorMatrix::new(entries, 2);
     if log_height > 8 || rows.width() != 2 || rows.height() != 1 << log_height {
-        bail!("the rows are no pairs, or their number another power of two");
+        return unfit("the rows are no pairs, or their number another power of two");
     }
     Ok(rows)
 }
@@ -58,20 +60,16 @@ fn pairs(alloc: Global, log_height: usize) -> Result<Pairs>
 pub fn by_y(alloc: Global, stage: Stage, log_height: usize) -> Result<Told> {
     let rows = pairs(alloc, log_height)?;
     let beta = cubic([3, 1, 4]);
-    if stage == Stage::Before {
-        return Ok(before());
-    }
-    let folded = fold_y::<Mersenne31, Cubic, Pairs>(alloc, beta, &rows);
-    Ok(told_elements(folded))
+    stage.begin()?;
+    let folded = fold_y::<Mersenne31, Cubic, Pairs>(alloc, beta, &rows)?;
+    Ok(told(digest(&folded)))
 }
 
 /// `fold_x`.
 pub fn by_x(alloc: Global, stage: Stage, log_height: usize) -> Result<Told> {
     let rows = pairs(alloc, log_height)?;
     let beta = cubic([3, 1, 4]);
-    if stage == Stage::Before {
-        return Ok(before());
-    }
-    let folded = fold_x::<Mersenne31, Cubic, Pairs>(alloc, beta, 1, &rows);
-    Ok(told_elements(folded))
+    stage.begin()?;
+    let folded = fold_x::<Mersenne31, Cubic, Pairs>(alloc, beta, 1, &rows)?;
+    Ok(told(digest(&folded)))
 }

@@ -1,6 +1,6 @@
 //! The calls of AIRs.
 use crate::airs::doubling;
-use crate::told::{Stage, Told, before};
+use crate::told::{Stage, Told};
 use anyhow::Result;
 use circle_air::Place;
 use std::alloc::Global;
@@ -8,9 +8,7 @@ use std::alloc::Global;
 /// Those calls.
 pub fn airs(alloc: Global, stage: Stage) -> Result<Told> {
     let air = doubling(alloc)?;
-    if stage == Stage::Before {
-        return Ok(before());
-    }
+    stage.begin()?;
     let digest = air.digest();
     Ok(Told::of(format_args!(
         "Ok {} {} {} {}, {} {} {}, {} {}",

@@ -1,7 +1,7 @@
 //! The calls of the challenger.
 use crate::plane::cubic;
-use crate::told::{Stage, Told, before, digest, low_bits, told_numbers};
-use anyhow::{Result, bail};
+use crate::told::{Stage, Told, digest, low_bits, told_numbers, unfit};
+use anyhow::Result;
 use circle_challenger::{
     CanObserve, CanSample, CanSampleBits, FieldChallenger, GrindingChallenger, Sha256Challenger,
 };
@@ -20,16 +20,14 @@ fn absorbed() -> Sha256Challenger {
 
 /// Those calls.
 pub fn challenger(stage: Stage) -> Result<Told> {
-    if stage == Stage::Before {
-        return Ok(before());
-    }
+    stage.begin()?;
     let mut prover = absorbed();
     let mut verifier = absorbed();
     let drawn: Mersenne31 = prover.sample();
     let extended: Cubic = prover.sample_algebra_element();
     let bits = prover.sample_bits(10);
     let Some(witness) = prover.grind(8) else {
-        bail!("no witness passes");
+        return unfit("no witness passes");
     };
     let passes = verifier.check_witness(8, witness);
     let is_new = prover == Sha256Challenger::default();

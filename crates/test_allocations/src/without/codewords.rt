@@ -1,7 +1,7 @@
 //! The calls on rows and entries of codewords.
 use crate::plane::cubic;
-use crate::told::{Stage, Told, before, digest, low_bits, told_numbers};
-use anyhow::{Result, bail};
+use crate::told::{Stage, Told, digest, low_bits, told_numbers, unfit};
+use anyhow::Result;
 use circle_commit::FriFoldingStrategy;
 use circle_field::{Cubic, Field, Mersenne31};
 use p3_circle::{CircleFriFolding, Point, deep_quotient_reduce_row, fold_x_row, x_value};
@@ -39,13 +39,11 @@ fn of_claims(alpha: Cubic, values: [Cubic; 2]) -> Option<[Cubic; 2]> {
 
 /// Those calls.
 pub fn codewords(stage: Stage) -> Result<Told> {
-    if stage == Stage::Before {
-        return Ok(before());
-    }
+    stage.begin()?;
     let values = [cubic([2, 7, 1]), cubic([8, 2, 8])];
     let folds = of_folds(cubic([3, 1, 4]), values);
     let Some(claims) = of_claims(cubic([1, 5, 9]), values) else {
-        bail!("a value is none");
+        return unfit("a value is none");
     };
     Ok(told_numbers(&[digest(&folds), digest(&claims), low_bits(further_bits())]))
 }

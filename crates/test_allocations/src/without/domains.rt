@@ -3,8 +3,8 @@ ghost use Rattle.std.specs.Prelude.{◌≤◌, ◌<◌, ◌^◌};
 ghost use Rattle.circle_domain.specs.Domain.{log_size};
 
 use crate::plane::Domain;
-use crate::told::{Stage, Told, before, digest, low_bits, told_numbers, with_number};
-use anyhow::{Result, bail};
+use crate::told::{Stage, Told, digest, low_bits, told_numbers, unfit, with_number};
+use anyhow::Result;
 use circle_commit::PolynomialSpace;
 use circle_field::{ComplexExtendable, Field, Mersenne31};
 use p3_circle::{CircleCoset, CircleDomain, CirclePoints, Point, cfft_permute_index};
@@ -50,13 +50,13 @@ fn of_readers<F: ComplexExtendable>(domain: CircleDomain<F>) -> [usize; 8]
 // polynomial.
 fn of_values(domain: Domain, t: Mersenne31) -> Result<u32> {
     if domain.log_n() > 31 || !domain.is_genuine() {
-        bail!("the domain is not genuine");
+        return unfit("the domain is not genuine");
     }
     let Some(at) = Point::from_projective_line(t) else {
-        bail!("the point is at infinity");
+        return unfit("the point is at infinity");
     };
     if !domain.is_clear_of(at) {
-        bail!("the domain is not clear of the point");
+        return unfit("the domain is not clear of the point");
     }
     let row = domain.selectors_at_point(t);
     Ok(digest(&[
@@ -68,13 +68,14 @@ fn of_values(domain: Domain, t: Mersenne31) -> Result<u32> {
     ]))
 }
 
-// The coordinates of the first point and of the next one, and the logarithm of the size of another domain.
+// The coordinates of the first point and of the next one, and the logarithm of the size of another
+// domain.
 fn of_others(domain: Domain, t: Mersenne31) -> Result<[u32; 3]> {
     if domain.log_n() == 0 || domain.log_n() > 31 {
-        bail!("the domain has one point, or isn't in the group");
+        return unfit("the domain has one point, or isn't in the group");
     }
     if domain.shift().to_projective_line().is_none() {
-        bail!("the first point is (-1, 0)");
+        return unfit("the first point is (-1, 0)");
     }
     let first = domain.first_point();
     let next = domain.next_point(t).unwrap_or(Mersenne31::ZERO);
@@ -87,7 +88,7 @@ fn of_others(domain: Domain, t: Mersenne31) -> Result<[u32; 3]> {
 // The number that the points of a domain and of its halves come to.
 fn of_orders(domain: Domain) -> Result<u32> {
     if domain.log_n() == 0 || domain.log_n() > 31 {
-        bail!("the domain has one point, or isn't in the group");
+        return unfit("the domain has one point, or isn't in the group");
     }
     let sum = with_number(of_points(domain.points()), of_coset(domain.coset0()));
     Ok(with_number(sum, of_coset(domain.coset1())))
@@ -95,9 +96,7 @@ fn of_orders(domain: Domain) -> Result<u32> {
 
 /// Those calls.
 pub fn domains(stage: Stage) -> Result<Told> {
-    if stage == Stage::Before {
-        return Ok(before());
-    }
+    stage.begin()?;
     let standard = Domain::standard(4);
     let domain = Domain::new(4, standard.shift());
     let t = Mersenne31::from_u64(3);

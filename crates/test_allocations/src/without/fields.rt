@@ -1,7 +1,7 @@
 //! The calls of fields that allocate nothing: all but `powers` and `batch_multiplicative_inverse`.
 use crate::plane::cubic;
-use crate::told::{Stage, Told, before, digest, told_numbers, with_number};
-use anyhow::{Result, bail};
+use crate::told::{Stage, Told, digest, told_numbers, unfit, with_number};
+use anyhow::Result;
 use circle_field::laws::{powers_multiply, sums_add};
 use circle_field::{
     ComplexExtendable, Cubic, ElementBytes, ExtensionField, Field, Mersenne31, PrimeField64,
@@ -89,13 +89,11 @@ fn of_readers(base: Mersenne31, extended: Cubic) -> [u32; 5] {
 
 /// Those calls.
 pub fn fields(stage: Stage) -> Result<Told> {
-    if stage == Stage::Before {
-        return Ok(before());
-    }
+    stage.begin()?;
     let (base, extended) = (Mersenne31::from_u64(12345), cubic([2, 7, 1]));
     let (x, y) = Mersenne31::circle_two_adic_generator(5);
     if base.is_zero() || extended.is_zero() {
-        bail!("an element is 0");
+        return unfit("an element is 0");
     }
     let numbers = [
         of_base(base, x),

@@ -1,9 +1,9 @@
 //! The calls that return nothing and carry a law, which requirements that are tested allow.
 use crate::plane::{Domain, cubic};
 use crate::scheme::params;
-use crate::told::{Stage, Told, before};
+use crate::told::{Stage, Told, unfit};
 use crate::transcript::shape;
-use anyhow::{Result, bail};
+use anyhow::Result;
 use circle_completeness::laws::{height_words_are_low, last_word_is_low};
 use circle_domain::laws::{coefficients_are_only, halves_add, multiples_add};
 use circle_field::{ComplexExtendable, Cubic, ExtensionField, Field, Mersenne31};
@@ -14,7 +14,7 @@ use std::alloc::Global;
 // Those of the values of a polynomial at a point.
 fn of_values(lower: &[Mersenne31], upper: &[Mersenne31], log_half: usize) -> Result<()> {
     if log_half > 31 || lower.len() != 1 << log_half || upper.len() > 1 << log_half {
-        bail!("the lengths are none of halves");
+        return unfit("the lengths are none of halves");
     }
     let point = Point::<Mersenne31>::generator(5);
     multiples_add(point, 2, 3);
@@ -25,10 +25,10 @@ fn of_values(lower: &[Mersenne31], upper: &[Mersenne31], log_half: usize) -> Res
 // That of the coefficients of a polynomial on a domain.
 fn of_coefficients(domain: Domain, one: &[Mersenne31], other: &[Mersenne31]) -> Result<()> {
     if domain.log_n() > 31 || !domain.is_genuine() {
-        bail!("the domain is not genuine");
+        return unfit("the domain is not genuine");
     }
     if one.len() != domain.size() || other.len() != domain.size() {
-        bail!("there is not one coefficient for each point");
+        return unfit("there is not one coefficient for each point");
     }
     coefficients_are_only(&domain, one, other);
     Ok(())
@@ -48,18 +48,18 @@ fn of_claims<F: ComplexExtendable, EF: ExtensionField<F>>(
     alphas: &[EF],
 ) -> Result<()> {
     let Some(domain) = CircleDomain::<F>::try_standard(log_height) else {
-        bail!("the group is too small");
+        return unfit("the group is too small");
     };
     if log_height < 3 || column.height() != domain.size() || column.width() != 1 {
-        bail!("there are too few entries");
+        return unfit("there are too few entries");
     }
     if alphas.len() != 2 {
-        bail!("there are not two challenges");
+        return unfit("there are not two challenges");
     }
     let one = alphas[0];
     let other = alphas[1];
     if one.is_zero() || one == other || !domain.is_clear_of(zeta) {
-        bail!("a challenge or the point binds nothing");
+        return unfit("a challenge or the point binds nothing");
     }
     quotient_binds::<F, EF>(one, zeta, column.values(), EF::ONE, 1);
     claim_binds::<F, EF>(alphas, zeta, column, &[EF::ONE], 1);
@@ -69,7 +69,7 @@ fn of_claims<F: ComplexExtendable, EF: ExtensionField<F>>(
 // Those of such claims at the point with this coordinate.
 fn of_claims_at(column: &RowMajorMatrix<Cubic>, t: Cubic) -> Result<()> {
     let Some(zeta) = Point::from_projective_line(t) else {
-        bail!("the point is at infinity");
+        return unfit("the point is at infinity");
     };
     of_claims::<Mersenne31, Cubic>(column, 3, zeta, &[cubic([1, 5, 9]), cubic([3, 1, 4])])
 }
@@ -78,9 +78,7 @@ fn of_claims_at(column: &RowMajorMatrix<Cubic>, t: Cubic) -> Result<()> {
 pub fn laws(alloc: Global, stage: Stage) -> Result<Told> {
     let shape = shape(alloc)?;
     let column = RowMajorMatrix::new_col(Vec::from_slice(alloc, &[cubic([2, 7, 1]); 8])?);
-    if stage == Stage::Before {
-        return Ok(before());
-    }
+    stage.begin()?;
     let (one, other) = ([Mersenne31::ONE; 4], [Mersenne31::TWO; 4]);
     of_values(&one, &other, 2)?;
     of_coefficients(Domain::standard(2), &one, &other)?;

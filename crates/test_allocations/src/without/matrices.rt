@@ -1,7 +1,7 @@
 //! The calls of matrices and of values on a domain that allocate nothing.
 use crate::plane::{Domain, Rows, elements};
-use crate::told::{Stage, Told, before, digest, low_bits, told_numbers, with_number};
-use anyhow::{Result, bail};
+use crate::told::{Stage, Told, digest, low_bits, told_numbers, unfit, with_number};
+use anyhow::Result;
 use circle_commit::{
     Matrix, PeriodicLdeTable, RowMajorMatrix, RowMajorMatrixView, entry_count, is_power_of_two,
 };
@@ -21,11 +21,11 @@ fn of_rows<M: Matrix<Mersenne31>>(rows: &M) -> u32 {
 // The rows that these are split into, and those of a view.
 fn of_parts(rows: &Rows) -> Result<[u32; 3]> {
     if rows.height() < 2 {
-        bail!("there are too few rows");
+        return unfit("there are too few rows");
     }
     let (first, others) = rows.split_rows(2);
     let Some(view) = RowMajorMatrixView::try_new(rows.values(), 2) else {
-        bail!("the entries are no rows of two");
+        return unfit("the entries are no rows of two");
     };
     Ok([of_rows(&first), of_rows(&others), of_rows(&view)])
 }
@@ -33,11 +33,11 @@ fn of_parts(rows: &Rows) -> Result<[u32; 3]> {
 // The rows in the other order, from one order of a domain to the other and back.
 fn of_orders(domain: Domain, rows: Rows) -> Result<u32> {
     if domain.log_n() > 31 || rows.height() != domain.size() {
-        bail!("there is not one row for each point");
+        return unfit("there is not one row for each point");
     }
     let natural = CircleEvaluations::from_natural_order(domain, rows).to_cfft_order();
     if natural.height() != domain.size() {
-        bail!("there is not one row for each point");
+        return unfit("there is not one row for each point");
     }
     let values = CircleEvaluations::from_cfft_order(domain, natural);
     Ok(of_rows(&values.to_natural_order()))
@@ -46,7 +46,7 @@ fn of_orders(domain: Domain, rows: Rows) -> Result<u32> {
 // The rows in the other order.
 fn of_permuted(rows: Rows) -> Result<u32> {
     if !is_power_of_two(rows.height()) {
-        bail!("the height is no power of two");
+        return unfit("the height is no power of two");
     }
     Ok(of_rows(&rows.cfft_perm_rows()))
 }
@@ -54,7 +54,7 @@ fn of_permuted(rows: Rows) -> Result<u32> {
 // The first rows in the transform's order, two of them.
 fn of_first(domain: Domain, rows: &Rows) -> Result<u32> {
     if domain.log_n() == 0 || domain.log_n() > 31 || rows.height() != domain.size() {
-        bail!("there is not one row for each point");
+        return unfit("there is not one row for each point");
     }
     Ok(of_rows(&first_rows(domain, rows, 1).to_cfft_order()))
 }
@@ -63,7 +63,7 @@ fn of_first(domain: Domain, rows: &Rows) -> Result<u32> {
 fn of_table(rows: Rows) -> Result<u32> {
     let table = PeriodicLdeTable::new(rows);
     if table.width() == 0 || table.height() == 0 {
-        bail!("the table is empty");
+        return unfit("the table is empty");
     }
     Ok(table.get(5, 0).value())
 }
@@ -72,11 +72,9 @@ fn of_table(rows: Rows) -> Result<u32> {
 pub fn matrices(alloc: Global, stage: Stage) -> Result<Told> {
     let (rows, others) = (elements(alloc, 8)?, elements(alloc, 8)?);
     let (permuted, table) = (elements(alloc, 8)?, elements(alloc, 8)?);
-    if stage == Stage::Before {
-        return Ok(before());
-    }
+    stage.begin()?;
     let Some(rows) = RowMajorMatrix::try_new(rows, 2) else {
-        bail!("the entries are no rows of two");
+        return unfit("the entries are no rows of two");
     };
     let [first, second, view] = of_parts(&rows)?;
     let column = RowMajorMatrix::new_col(others);

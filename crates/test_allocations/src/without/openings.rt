@@ -1,8 +1,8 @@
 //! The calls on requests to open and on proofs that allocate nothing, laws among them.
 use crate::plane::cubic;
 use crate::scheme::{after_commitment, claims, committed, opened, requests, scheme};
-use crate::told::{Stage, Told, before};
-use anyhow::{Result, bail};
+use crate::told::{Stage, Told, unfit};
+use anyhow::Result;
 use circle_challenger::{CanObserve, CanSample, GrindingChallenger};
 use circle_commit::{Mmcs, OpeningRequest};
 use circle_completeness::laws::honest_openings_end_low;
@@ -31,7 +31,7 @@ where
     C: CanSample<Val> + GrindingChallenger<Val> + CanObserve<FriMmcs::Commitment>,
 {
     if !pcs.have_heights_of_powers(requests) {
-        bail!("a height is no power of two");
+        return unfit("a height is no power of two");
     }
     let params = &pcs.fri_params;
     validate_requests::<Val, EF, InputMmcs, FriMmcs>(&pcs.mmcs, params, requests)?;
@@ -59,13 +59,11 @@ fn of_constants(scheme: &Scheme, claims: &[Claim], proof: &Proof) {
 
 /// Those calls.
 pub fn openings(alloc: Global, stage: Stage) -> Result<Told> {
-    let (commitment, data) = committed(alloc)?;
+    let (commitment, data) = committed(alloc, Stage::Whole)?;
     let (values, proof) = opened(alloc, &commitment, &data)?;
     let claims = claims(alloc, commitment, values)?;
     let requests = requests(alloc, &data)?;
-    if stage == Stage::Before {
-        return Ok(before());
-    }
+    stage.begin()?;
     let scheme = scheme();
     of_requests(&scheme, &requests, &after_commitment(&commitment))?;
     of_constants(&scheme, &claims, &proof);

@@ -1,7 +1,7 @@
 //! The calls of points.
 use crate::plane::cubic;
-use crate::told::{Stage, Told, before, digest, told_numbers};
-use anyhow::{Result, bail};
+use crate::told::{Stage, Told, digest, told_numbers, unfit};
+use anyhow::Result;
 use circle_field::{Cubic, ExtensionField, Field, Mersenne31};
 use p3_circle::laws::equal_points_hash_equally;
 use p3_circle::{Neutral, Point};
@@ -67,21 +67,19 @@ fn of_coordinates(x: Mersenne31, y: Mersenne31) -> Option<Point<Mersenne31>> {
 
 /// Those calls.
 pub fn points(stage: Stage) -> Result<Told> {
-    if stage == Stage::Before {
-        return Ok(before());
-    }
+    stage.begin()?;
     let generator = Point::<Mersenne31>::generator(5);
     let (Some(point), Some(at)) = (
         of_coordinates(generator.x(), generator.y()),
         Point::from_projective_line(cubic([0, 1, 0])),
     ) else {
-        bail!("there is no such point");
+        return unfit("there is no such point");
     };
     let (Some(line), Some(lifted)) = (point.to_projective_line(), at.to_projective_line()) else {
-        bail!("the point is (-1, 0)");
+        return unfit("the point is (-1, 0)");
     };
     let Some(selector) = of_selector(point, at) else {
-        bail!("the point is the pole");
+        return unfit("the point is the pole");
     };
     let [base, extended] = of_sums(point, at);
     let [values, others] = of_values(point, at);

@@ -1,7 +1,7 @@
 //! The calls of the schemes that allocate nothing.
 use crate::scheme::{committed, params};
-use crate::told::{Stage, Told, before, low_bits, told_numbers};
-use anyhow::{Result, bail};
+use crate::told::{Stage, Told, low_bits, told_numbers, unfit};
+use anyhow::Result;
 use circle_commit::Mmcs;
 use circle_field::Mersenne31;
 use circle_merkle::ShaMmcs;
@@ -12,7 +12,7 @@ use std::alloc::Global;
 // The logarithms of the sizes of natural domains, and the limits of heights.
 fn of_heights(scheme: &Scheme) -> Result<[usize; 4]> {
     let Some(domain) = scheme.try_natural_domain_for_degree(8) else {
-        bail!("there is no such domain");
+        return unfit("there is no such domain");
     };
     Ok([
         domain.log_n(),
@@ -24,10 +24,8 @@ fn of_heights(scheme: &Scheme) -> Result<[usize; 4]> {
 
 /// Those calls.
 pub fn schemes(alloc: Global, stage: Stage) -> Result<Told> {
-    let (_, data) = committed(alloc)?;
-    if stage == Stage::Before {
-        return Ok(before());
-    }
+    let (_, data) = committed(alloc, Stage::Whole)?;
+    stage.begin()?;
     let trees = ShaMmcs::<Mersenne31>::new();
     let scheme = scheme(params());
     let [domain, natural, least, greatest] = of_heights(&scheme)?;

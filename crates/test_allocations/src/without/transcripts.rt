@@ -8,9 +8,9 @@ ghost use Rattle.circle_transcript.specs.Transcript.{due as due_of, numbers};
 ghost use Rattle.test_allocations.specs.Run.{IsRun};
 
 use crate::plane::cubic;
-use crate::told::{Stage, Told, before, digest, low_bits, told_numbers};
+use crate::told::{Stage, Told, digest, low_bits, told_numbers, unfit};
 use crate::transcript::shape;
-use anyhow::{Result, bail};
+use anyhow::Result;
 use circle_challenger::{
     CanSample, DomainSeparator, Hierarchy, Interaction, InteractionPattern, Kind, Length,
     ProverState, Sha256Challenger, TranscriptState, VerifierState,
@@ -160,11 +160,9 @@ fn verify(transcript: &mut Verifier<'_>) -> Result<[Cubic; 3], CircleTranscriptF
 /// The calls of the challenger's transcripts, all but those that draw numbers.
 pub fn states(alloc: Global, stage: Stage) -> Result<Told> {
     let separator = separator(alloc)?;
-    if stage == Stage::Before {
-        return Ok(before());
-    }
+    stage.begin()?;
     let Some((witness, proved, checked)) = of_states(&separator) else {
-        bail!("no witness passes");
+        return unfit("no witness passes");
     };
     let [steps, labels, bytes] = of_readers(&separator);
     Ok(told_numbers(&[
@@ -182,9 +180,9 @@ pub fn prover(alloc: Global, stage: Stage) -> Result<Told> {
     let shape = shape(alloc)?;
     let mut challenger = Sha256Challenger::new();
     let mut transcript = Prover::new(alloc, &mut challenger, shape)?;
-    if stage == Stage::Before {
+    if let Err(end) = stage.begin() {
         transcript.abort();
-        return Ok(before());
+        return Err(end);
     }
     let drawn = prove(&mut transcript);
     transcript.abort();
@@ -203,9 +201,9 @@ pub fn finish(alloc: Global, stage: Stage) -> Result<Told> {
             return Err(failure.into());
         }
     };
-    if stage == Stage::Before {
+    if let Err(end) = stage.begin() {
         transcript.abort();
-        return Ok(before());
+        return Err(end);
     }
     transcript.finish();
     let next: Mersenne31 = challenger.sample();
@@ -217,9 +215,9 @@ pub fn verifier(alloc: Global, stage: Stage) -> Result<Told> {
     let shape = shape(alloc)?;
     let mut challenger = Sha256Challenger::new();
     let mut transcript = Verifier::new(alloc, &mut challenger, shape)?;
-    if stage == Stage::Before {
+    if let Err(end) = stage.begin() {
         transcript.abort();
-        return Ok(before());
+        return Err(end);
     }
     let drawn = verify(&mut transcript);
     transcript.abort();
