@@ -397,6 +397,21 @@ class Calls:
         due = (0, 1, None), "Unsatisfied: row 0 fails constraint 1"
         self.unsatisfied(*due, stark.check, air, rows, public)
 
+    def test_if_x_is_c(self):
+        """The counter of docs/AIRS.md."""
+        air = circle.Air(columns=3)
+        x, flag, inverse = air.columns
+        air.every_row.assert_eq((x - 5) * inverse, 1 - flag)
+        air.every_row.assert_zero((x - 5) * flag)
+        air.transition.assert_eq(air.next_columns[0], (1 - flag) * (x + 1))
+        rows = [[it, int(it == 5), pow(it - 5, -1, P) if it != 5 else 0] for it in range(6)]
+        rows = (rows * 3)[:16]
+        self.assertIsNone(stark.check(air, rows))
+        for row in range(16):
+            for wrong in (1 - rows[row][1], 2):
+                others = changed(rows, row, 1, wrong)
+                self.assertRaises(circle.Unsatisfied, stark.check, air, others)
+
     def test_any_sequences_are_traces(self):
         air = circle.Air(columns=2)
         air.transition.assert_eq(air.next_columns[0], air.columns[1])
