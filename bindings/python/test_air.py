@@ -9,6 +9,7 @@ the library isn't there, only what needs no more than its stand-in is tested.
 import json
 import pickle
 import random
+import re
 import unittest
 
 import reference
@@ -496,10 +497,12 @@ class Calls:
                 with self.assertRaises(circle.Unreadable) as raised:
                     call(given.compact(value))
                 self.assertEqual((raised.exception.name, raised.exception.path), (name, path))
-        value = {**asked, "rows": None, "air": {**asked["air"], "nodes": [{"neg": 0}]}}
-        with self.assertRaises(circle.Unreadable) as raised:
-            stark.prove_text(given.compact(value))
-        self.assertEqual((raised.exception.name, raised.exception.path), ("WrongKind", None))
+        large = {**asked["air"], "nodes": [{"neg": 0}], "width": 2**64 - 1}
+        with self.assertRaisesRegex(circle.Unreadable, "^WrongKind at rows: "):
+            stark.prove_text(given.compact({**asked, "rows": None, "air": large}))
+        text = given.compact({"air": large, "params": {}, "public_values": []})
+        with self.assertRaisesRegex(circle.Unreadable, r"^MissingKey at statement\.log_n$"):
+            stark.verify_text(text, "{}")
 
     def test_statements_are_read(self):
         for name in stand_in.names():
@@ -567,6 +570,10 @@ class CallsOfStandIn(Calls, unittest.TestCase):
 
 @needs_library
 class CallsOfLibrary(Calls, unittest.TestCase):
+    def test_examples_of_the_module(self):
+        for text in (circle.__doc__, circle.air.__doc__):
+            exec("\n".join(re.findall("^    (.*)$", text, re.M)), {})
+
     def test_cases(self):
         calls = {"stark check": self.checked, "stark prove": lambda text: stark.prove_text(text)}
         for case in given.verify_py.all_cases():

@@ -4,7 +4,7 @@ import collections.abc
 from dataclasses import dataclass, field
 from typing import Any, Sequence, Type
 
-from .errors import Refused, Unreadable
+from .errors import Unreadable
 from .forms import COUNT, ELEMENTS, ROWS, Record, by, count, list_of, record
 from .library import Text
 from .records import ClaimedBatch, Matrix, Params, Proof
@@ -70,7 +70,4 @@ def located(fault: Unreadable, kind: Type[Record], text: Text) -> Unreadable:
     except Unreadable as found:
         if found.name == fault.name:
             return found
-    except Refused:
-        # The text has an AIR that is none, before the fault.
-        pass
     return Unreadable("json", "") if fault.name == "json" else fault

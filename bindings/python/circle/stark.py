@@ -36,6 +36,7 @@ from .forms import (
 )
 from .inputs import located
 from .library import State, Text, line, read_answer, unexpected
+from .parts import Parts
 from .records import Params
 
 __all__ = [
@@ -79,8 +80,11 @@ def _own(value: Any) -> Air:
 @dataclass(frozen=True)
 class Statement(Record):
     """What a proof shows: that 2^log_n rows satisfy an AIR of these public values. The parameters
-    are the verifier's (docs/SECURITY.md). The JSON value has no names of constraints. A statement
-    has no hash, since its AIR has none; `statement.air.digest()` can be a key."""
+    are the verifier's (docs/SECURITY.md).
+
+    The JSON value has no names of constraints, and is read as that of an Air is. A statement has no
+    hash, since its AIR has none; `statement.air.digest()` can be a key.
+    """
 
     air: Air = field(metadata=by(_air))
     log_n: int = field(metadata=COUNT)
@@ -116,27 +120,32 @@ class _Trace(Record):
     public_values: Sequence[int] = field(metadata=ELEMENTS)
 
 
+# What texts have: only to find where one can't be read, so the AIR isn't built.
 @dataclass(frozen=True)
-class _ProveInput(Record):
-    """An input of the program's `prove`."""
-
-    air: Air = field(metadata=by(_air))
-    params: Params = field(metadata=by(record(Params)))
-    public_values: Sequence[int] = field(metadata=ELEMENTS)
-    rows: Sequence[Sequence[int]] = field(metadata=ROWS)
-
-
-@dataclass(frozen=True)
-class _CheckInput(Record):
-    """An input of the program's `check`, which may have parameters."""
-
-    air: Air = field(metadata=by(_air))
+class _CheckText(Record):
+    air: Parts = field(metadata=by(record(Parts)))
     public_values: Sequence[int] = field(metadata=ELEMENTS)
     rows: Sequence[Sequence[int]] = field(metadata=ROWS)
     params: Optional[Params] = field(
         default=None,
         metadata=by(lambda value: value if value is None else record(Params)(value), True),
     )
+
+
+@dataclass(frozen=True)
+class _ProveText(Record):
+    air: Parts = field(metadata=by(record(Parts)))
+    params: Params = field(metadata=by(record(Params)))
+    public_values: Sequence[int] = field(metadata=ELEMENTS)
+    rows: Sequence[Sequence[int]] = field(metadata=ROWS)
+
+
+@dataclass(frozen=True)
+class _StatementText(Record):
+    air: Parts = field(metadata=by(record(Parts)))
+    log_n: int = field(metadata=COUNT)
+    params: Params = field(metadata=by(record(Params)))
+    public_values: Sequence[int] = field(metadata=ELEMENTS)
 
 
 def check(air: Air, rows: Sequence[Sequence[int]], public_values: Sequence[int] = ()) -> None:
@@ -199,14 +208,14 @@ def verify(
 def check_text(text: Text) -> None:
     """Returns None if the rows in a text satisfy its AIR; raises otherwise. The text is an input of
     the program's `check`."""
-    answer = _told(_CheckInput, text, lambda: line("stark_check", text, room=_VERDICT_LEN))
+    answer = _told(_CheckText, text, lambda: line("stark_check", text, room=_VERDICT_LEN))
     if answer != _SATISFIED:
         raise unexpected(answer)
 
 
 def prove_text(text: Text) -> str:
     """A statement with its proof, as the program's `prove` writes them."""
-    return _told(_ProveInput, text, lambda: line("stark_prove", text, room=_PROOF_LEN))
+    return _told(_ProveText, text, lambda: line("stark_prove", text, room=_PROOF_LEN))
 
 
 def verify_text(statement: Text, proof: Text) -> str:
@@ -228,7 +237,7 @@ def verify_text(statement: Text, proof: Text) -> str:
 def _located_in(fault: Unreadable, statement: Text, proof: Text) -> Unreadable:
     """The library's fault of one of two texts, with the path that leads to it."""
     kinds: Dict[Optional[str], Any]
-    kinds = {"statement": (Statement, statement), "proof": (Proof, proof)}
+    kinds = {"statement": (_StatementText, statement), "proof": (Proof, proof)}
     if fault.path not in kinds:
         return fault
     kind, text = kinds[fault.path]
