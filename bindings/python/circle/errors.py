@@ -55,8 +55,8 @@ class Refused(Error):
 class Unsatisfied(Refused):
     """A constraint doesn't hold at a row: the first such row, and its first such constraint.
 
-    `row` and `constraint` count from 0. A transition fails at the row before: if an entry of row 3
-    is wrong, it may be reported at row 2. `constraint_name` is the name that the constraint was
+    `row` and `constraint` count from 0. A transition is reported at the earlier of its two rows: a
+    wrong entry in row 3 often shows as row 2. `constraint_name` is the name that the constraint was
     given, or None.
     """
 
