@@ -2,7 +2,7 @@
 
 A section of the page that is named for a language has a program, in a block of that language, which
 proves a statement and judges the proof. Its indented lines are the commands, in order, in a folder
-where `circle` is an unpacked bundle. The table in the section `A bundle` says what stands in a
+where `bundle` is an unpacked bundle. The table in the section `A bundle` says what stands in a
 clone for the places of a bundle. The section `A protocol` has a program for each of two languages,
 and its command, which is run in the same folder as that language's other program.
 """
@@ -12,6 +12,8 @@ import pathlib
 import re
 import subprocess
 
+# The name that the page gives to an unpacked bundle.
+BUNDLE = "bundle"
 PAGE = pathlib.Path(__file__).resolve().parent.parent / "docs" / "BINDINGS.md"
 # Of each language what its commands need, the files of the section's blocks, the one with the
 # proof, and the line where the proof is accepted.
@@ -25,7 +27,7 @@ LANGUAGES = {
 PROTOCOL = "A protocol"
 PROTOCOLS = {
     "Python": ("python", "protocol.py", "site/bin/python "),
-    "Rust": ("rust", "circle/rust/examples/protocol.rs", "cargo "),
+    "Rust": ("rust", "bundle/rust/examples/protocol.rs", "cargo "),
 }
 
 
@@ -65,7 +67,7 @@ def commands(heading, places):
 
 def places_in_clone():
     """What stands in a clone for each place of a bundle, by the page's table."""
-    rows = re.findall(r"^\| `(circle/\S+)` \| `(circle/\S+)` \|", section("A bundle"), re.M)
+    rows = re.findall(r"^\| `(bundle/\S+)` \| `(circle/\S+)` \|", section("A bundle"), re.M)
     return dict(rows)
 
 

@@ -9,6 +9,7 @@ the library isn't there, only what needs no more than its stand-in is tested.
 import json
 import pickle
 import random
+import re
 import unittest
 
 import reference
@@ -62,6 +63,16 @@ def permutation():
     require_equal(air.first_row, air.columns, air.public_values[:8])
     require_equal(air.last_row, air.columns, air.public_values[8:])
     return air
+
+
+def changed(value, *path_and_item):
+    """A value of JSON in which another item stands behind a path."""
+    *path, last, item = path_and_item
+    found = inside = json.loads(json.dumps(value))
+    for key in path:
+        inside = inside[key]
+    inside[last] = item
+    return found
 
 
 def statement(name, air):
@@ -239,13 +250,124 @@ class Faults(unittest.TestCase):
 
     def test_what_makes_no_statement(self):
         params, value = circle.Params(log_blowup=1, num_queries=2), self.air.to_value()
-        with self.assertRaisesRegex(TypeError, "expected an Air, got dict"):
-            stark.Statement(value, 2, [], params)
+        with self.assertRaisesRegex(circle.Unreadable, "WrongKind at air: 7 isn't an Air"):
+            stark.Statement(7, 2, [], params)
         with self.assertRaisesRegex(TypeError, "expected an Air, got dict"):
             stark.check(value, [[1]])
         for log_n, public, path in ((-1, [], "log_n"), (2, [P], r"public_values\[0\]")):
             with self.assertRaisesRegex(circle.Unreadable, f"OutOfRange at {path}: "):
                 stark.Statement(self.air, log_n, public, params)
+
+
+class Values(unittest.TestCase):
+    """AIRs from and to JSON, and their equality."""
+
+    def test_airs_are_read(self):
+        for name in stand_in.names():
+            value = stand_in.stored(name, "prove")["air"]
+            air, due = circle.Air.from_value(value), WORKED["airs"][name.rsplit("_", 2)[0]]
+            self.assertEqual((air.to_value(), air.digest()), (value, due["digest"]))
+            self.assertEqual(circle.Air.from_json(json.dumps(value)), air)
+            self.assertEqual(json.loads(air.to_json()), value)
+            self.assertEqual({*air.constraint_names}, {None})
+
+    def test_random_airs_are_read(self):
+        for seed in range(COUNT):
+            air = reference.Sample(random.Random(seed)).air()
+            read = circle.Air.from_json(air.to_json())
+            self.assertEqual(read, air)
+            for it in (air, read):
+                it.last_row.assert_zero(it.columns[0] * it.next_columns[0] - 1)
+            found = [reference.node_values(it.to_value()["nodes"], self.at()) for it in (air, read)]
+            nodes = [it.to_value()["constraints"][-1]["node"] for it in (air, read)]
+            self.assertEqual(found[0][nodes[0]], found[1][nodes[1]])
+
+    def at(self):
+        rng = random.Random(7)
+        return {kind: [rng.randrange(P) for _ in range(99)] for kind in reference.READS}
+
+    def test_nodes_are_kept_as_they_are(self):
+        nodes = [{"local": 0}, {"local": 0}, {"constant": 1}, {"add": [0, 2]}, {"add": [1, 2]}]
+        value = {"constraints": [{"node": 3, "when": "last"}], "nodes": nodes}
+        value.update(num_public_values=2, periodic_columns=[[5], [5]], width=3)
+        air = circle.Air.from_value(value)
+        self.assertEqual(air.to_value(), value)
+        a, b, _ = air.columns
+        self.assertEqual((air.public_values[1] - b)._node, (air.public_values[1] - b)._node)
+        air.every_row.assert_eq(a + 1, b)
+        self.assertEqual(air.to_value()["nodes"][:5], nodes)
+        self.assertEqual(air.to_value()["nodes"][5:], [{"local": 1}, {"sub": [3, 5]}])
+
+    def test_what_cant_be_read(self):
+        value = fibonacci().to_value()
+        node = ["nodes", 0]
+        faults = (
+            ([*node, {}], "MissingKey at nodes[0]"),
+            ([*node, {"local": 0, "next": 0}], "UnknownKey at nodes[0].next"),
+            ([*node, {"div": [0, 0]}], "UnknownKey at nodes[0].div"),
+            ([*node, {"add": [0]}], "WrongKind at nodes[0].add"),
+            ([*node, {"neg": [0]}], "WrongKind at nodes[0].neg"),
+            ([*node, {"constant": P}], "OutOfRange at nodes[0].constant"),
+            ([*node, 7], "WrongKind at nodes[0]"),
+            (["constraints", 1, "when", "often"], "WrongKind at constraints[1].when"),
+            (["periodic_columns", [[P]]], "OutOfRange at periodic_columns[0][0]"),
+            (["width", -1], "OutOfRange at width"),
+        )
+        for change, told in faults:
+            with self.assertRaises(circle.Unreadable) as raised:
+                circle.Air.from_value(changed(value, *change))
+            self.assertEqual(str(raised.exception).split(": ")[0], told)
+        with self.assertRaisesRegex(circle.Unreadable, "^json"):
+            circle.Air.from_json("{")
+
+    def test_what_makes_no_air_is_refused(self):
+        value = fibonacci().to_value()
+        faults = (
+            (["width", 0], "NoColumns"),
+            (["periodic_columns", [[1, 2, 3]]], "PeriodicLength"),
+            (["nodes", 1, {"neg": 1}], "NodeOutOfOrder"),
+            (["nodes", 1, {"next": 2}], "ColumnOutOfRange"),
+            (["nodes", 1, {"periodic": 0}], "PeriodicOutOfRange"),
+            (["nodes", 1, {"public": 3}], "PublicOutOfRange"),
+            (["constraints", 0, "node", 99], "ConstraintOutOfRange"),
+        )
+        for change, name in faults:
+            with self.assertRaises(circle.Refused) as raised:
+                circle.Air.from_value(changed(value, *change))
+            self.assertEqual(raised.exception.name, name)
+
+    def test_equality_is_by_value(self):
+        params = circle.Params(log_blowup=1, num_queries=2)
+        one, other = (stark.Statement(fibonacci(), 3, [1, 1, 34], params) for _ in range(2))
+        self.assertEqual(one, other)
+        self.assertEqual(repr(one.air), "<Air: columns=2, public_values=3, constraints=5>")
+        other.air.every_row.assert_zero(other.air.columns[0])
+        self.assertNotEqual(one, other)
+        self.assertNotEqual(one.air, 7)
+        self.assertRaises(TypeError, hash, one.air)
+
+
+class Hints(unittest.TestCase):
+    """What errors say beside their names."""
+
+    def test_refusals(self):
+        fault = circle.Refused("InputMmcsError")
+        for found in (fault, pickle.loads(pickle.dumps(fault))):
+            self.assertEqual(found.name, "InputMmcsError")
+            self.assertRegex(str(found), "^InputMmcsError: opened rows don't authenticate: ")
+        self.assertEqual(str(circle.Refused("NoColumns")), "NoColumns")
+
+    def test_they_are_of_names(self):
+        text = "".join((given.TOP / "docs" / f"{it}.md").read_text() for it in ("PROGRAM", "STARK"))
+        for name in circle.errors._HINTS:
+            is_there = f"`{name}`" in text or f'"{name}"' in text
+            self.assertTrue(is_there or name == "ParametersDiffer", name)
+
+    def test_comparisons(self):
+        air = circle.Air(columns=1)
+        with self.assertRaisesRegex(TypeError, "got bool .use assert_eq"):
+            air.every_row.assert_zero(air.columns[0] == 1)
+        self.assertIsInstance(air.every_row, circle.Place)
 
 
 class Calls:
@@ -276,6 +398,21 @@ class Calls:
         due = (0, 1, None), "Unsatisfied: row 0 fails constraint 1"
         self.unsatisfied(*due, stark.check, air, rows, public)
 
+    def test_if_x_is_c(self):
+        """The counter of docs/AIRS.md."""
+        air = circle.Air(columns=3)
+        x, flag, inverse = air.columns
+        air.every_row.assert_eq((x - 5) * inverse, 1 - flag)
+        air.every_row.assert_zero((x - 5) * flag)
+        air.transition.assert_eq(air.next_columns[0], (1 - flag) * (x + 1))
+        rows = [[it, int(it == 5), pow(it - 5, -1, P) if it != 5 else 0] for it in range(6)]
+        rows = (rows * 3)[:16]
+        self.assertIsNone(stark.check(air, rows))
+        for row in range(16):
+            for wrong in (1 - rows[row][1], 2):
+                others = changed(rows, row, 1, wrong)
+                self.assertRaises(circle.Unsatisfied, stark.check, air, others)
+
     def test_any_sequences_are_traces(self):
         air = circle.Air(columns=2)
         air.transition.assert_eq(air.next_columns[0], air.columns[1])
@@ -303,6 +440,10 @@ class Calls:
         self.refused("HeightNotPowerOfTwo", stark.check, air, [], [1, 1, 1])
         self.refused("PublicValuesMismatch", stark.check, air, rows)
         self.refused("WidthMismatch", stark.check, air, [[1]], [1, 1, 1])
+        with self.assertRaisesRegex(circle.Refused, "has 3 public values, but 2 were given"):
+            stark.check(air, rows, [1, 1])
+        with self.assertRaisesRegex(circle.Refused, "has 2 columns, but the rows have 1"):
+            stark.check(air, [[1]], [1, 1, 1])
         self.refused("NoConstraints", stark.check, circle.Air(columns=2), rows)
         air.every_row.assert_zero(air.columns[0] ** (2**31))
         self.refused("DegreeTooHigh", stark.check, air, rows, [1, 1, 34])
@@ -327,14 +468,52 @@ class Calls:
             value = json.loads(stark.prove_text(asked.encode()))
             self.assertEqual(value, stand_in.stored(name, "verify"))
             proof = given.compact(value.pop("proof"))
-            self.assertIsNone(stark.verify_text(given.compact(value), proof))
+            due = WORKED["airs"][name.rsplit("_", 2)[0]]["digest"]
+            self.assertEqual(stark.verify_text(given.compact(value), proof), due)
+            self.assertEqual(stark.Statement.from_value(value).air.digest(), due)
             value["log_n"] += 1
             self.assertRaises(circle.Refused, stark.verify_text, given.compact(value), proof)
         self.assertRaises(circle.Unreadable, stark.check_text, "")
-        with self.assertRaisesRegex(circle.Unreadable, "^json at statement$"):
+        with self.assertRaisesRegex(circle.Unreadable, "^json at statement: "):
             stark.verify_text("", "")
-        with self.assertRaisesRegex(circle.Unreadable, "^MissingKey at proof$"):
+        with self.assertRaisesRegex(circle.Unreadable, r"^MissingKey at proof\.opened_values$"):
             stark.verify_text(given.compact(value), "{}")
+
+    def test_faults_of_texts_are_located(self):
+        asked = stand_in.stored("fibonacci_8_rows", "prove")
+        node = {"add": [0, -1]}
+        changes = {
+            "rows": ("MissingKey", lambda it: it.pop("rows")),
+            "air.width": ("MissingKey", lambda it: it["air"].pop("width")),
+            "air.nodes[0].add[1]": ("OutOfRange", lambda it: it["air"]["nodes"].insert(0, node)),
+            "air.more": ("UnknownKey", lambda it: it["air"].update(more=1)),
+            "params.log_blowup": ("MissingKey", lambda it: it["params"].pop("log_blowup")),
+            "rows[1][0]": ("WrongKind", lambda it: it["rows"].insert(1, ["1", 1])),
+        }
+        for path, (name, change) in changes.items():
+            value = json.loads(json.dumps(asked))
+            change(value)
+            for call in (stark.check_text, stark.prove_text):
+                with self.assertRaises(circle.Unreadable) as raised:
+                    call(given.compact(value))
+                self.assertEqual((raised.exception.name, raised.exception.path), (name, path))
+        large = {**asked["air"], "nodes": [{"neg": 0}], "width": 2**64 - 1}
+        with self.assertRaisesRegex(circle.Unreadable, "^WrongKind at rows: "):
+            stark.prove_text(given.compact({**asked, "rows": None, "air": large}))
+        text = given.compact({"air": large, "params": {}, "public_values": []})
+        with self.assertRaisesRegex(circle.Unreadable, r"^MissingKey at statement\.log_n$"):
+            stark.verify_text(text, "{}")
+
+    def test_statements_are_read(self):
+        for name in stand_in.names():
+            value = stand_in.stored(name, "verify")
+            proof = value.pop("proof")
+            mine = stark.Statement.from_json(json.dumps(value))
+            self.assertEqual(mine.to_value(), value)
+            self.assertEqual(mine, stark.Statement.from_value(value))
+            self.assertIsNone(stark.verify(mine, proof))
+            if name.startswith("fibonacci"):
+                self.assertEqual(mine, statement(name, fibonacci()))
 
     def test_another_statement_is_refused(self):
         mine = statement("fibonacci_8_rows", fibonacci())
@@ -391,6 +570,10 @@ class CallsOfStandIn(Calls, unittest.TestCase):
 
 @needs_library
 class CallsOfLibrary(Calls, unittest.TestCase):
+    def test_examples_of_the_module(self):
+        for text in (circle.__doc__, circle.air.__doc__):
+            exec("\n".join(re.findall("^    (.*)$", text, re.M)), {})
+
     def test_cases(self):
         calls = {"stark check": self.checked, "stark prove": lambda text: stark.prove_text(text)}
         for case in given.verify_py.all_cases():

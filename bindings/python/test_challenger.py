@@ -205,6 +205,8 @@ class Challengers:
         for wrong in ("name", 7, None, [7], circle.Challenger()):
             with self.assertRaisesRegex(TypeError, "expected bytes or a Commitment, got "):
                 challenger.observe(wrong)
+        with self.assertRaisesRegex(TypeError, r"got str \(use Commitment\(text\)\)"):
+            circle.Challenger().observe("0A" * 32)
         with self.assertRaisesRegex(TypeError, r"got str \(use `name.encode\(\)`\)"):
             challenger.observe("name")
         for wrong, told in (

@@ -1,6 +1,21 @@
-"""Circle STARK polynomial commitments, proved: the verifier and the prover, called from Python.
+"""Circle STARKs, proved: verifiers and provers, called from Python.
+
+`circle.stark` proves that the rows of a table satisfy constraints, an `Air` (docs/AIRS.md):
 
     import circle
+
+    air = circle.Air(columns=1, public_values=1)
+    air.first_row.assert_eq(air.columns[0], 1)
+    air.transition.assert_eq(air.next_columns[0], air.columns[0] * 2, "each row doubles")
+    air.last_row.assert_eq(air.columns[0], air.public_values[0])
+
+    params = circle.Params(log_blowup=1, num_queries=89)
+    statement = circle.stark.Statement(air, log_n=3, public_values=[128], params=params)
+    proof = circle.stark.prove(statement, [[2**row] for row in range(8)])
+    circle.stark.verify(statement, proof)
+
+`prove` and `verify` are of the polynomial commitments below it: they show the values that columns
+have at points:
 
     params = circle.Params(log_blowup=1, num_queries=89)
     matrix = circle.Matrix(points=[(0, 1, 0)], rows=[[7], [7], [7], [7]])
@@ -8,17 +23,15 @@
     circle.verify(statement, proof, params)
 
 If there is no result, a call raises Refused or Unreadable, whose `name` is the reason's in
-docs/PROGRAM.md. The calls are those of a library in the language Rattle, whose functions are proved
-to meet their contracts: `verify` returns exactly if the relation of an accepted opening holds,
-unless it runs out of memory. That is proved of the library. This package is tested and not proved:
+docs/PROGRAM.md or docs/STARK.md. Arguments that aren't of their types raise TypeError or
+ValueError. The calls are those of a library in the language Rattle, whose functions are proved to
+meet their contracts: `verify` returns exactly if the relation of an accepted opening holds, unless
+it runs out of memory. That is proved of the library. This package is tested and not proved:
 docs/BINDINGS.md says what remains.
 
 `prove_text`, `verify_text`, `verify_as_stated`, `shape` and `values` take texts, as str or as the
 bytes of UTF-8, which docs/PROGRAM.md describes. `bits` returns how many bits of security parameters
 give.
-
-`Air` is for constraints on the rows of a trace, and the module `stark` proves that rows satisfy
-them (docs/AIRS.md).
 
 A protocol commits with `commit`, and has a `Challenger` on each side, which absorbs the commitments
 and then draws the points; `prove` and `verify` start from it (docs/BINDINGS.md).
@@ -36,7 +49,7 @@ RuntimeError.
 from typing import Any, Callable, List, Mapping, Optional, Sequence, Tuple, Type, TypeVar, Union
 
 from . import stark
-from .air import Air, Expr
+from .air import Air, Expr, Place
 from .challenger import Challenger
 from .challenger import advance as _advance
 from .errors import Error, Refused, Unreadable, Unsatisfied
@@ -87,6 +100,7 @@ __all__ = [
     "Matrix",
     "ORDER",
     "Params",
+    "Place",
     "Proof",
     "Refused",
     "RoundOpening",

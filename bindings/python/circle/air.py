@@ -16,18 +16,14 @@ import hashlib
 import operator
 from typing import Any, Callable, Dict, Iterator, List, NamedTuple, Optional, Sequence, Tuple, Union
 
-from .forms import ORDER
+from .errors import Refused
+from .forms import ORDER, compact, parsed
+from .parts import KINDS, PLACES, Node, Parts, refusals
 
 __all__ = ["Air", "Expr", "Place"]
 
 # What stands for an expression: a whole number is a constant.
 Operand = Union["Expr", int]
-# A node's kind and its operands: numbers of earlier nodes, or of what it reads, or an element.
-_Node = Tuple[Any, ...]
-
-# The kinds of nodes and the places of constraints, each by the byte that stands for it in a digest.
-_KINDS = ("local", "next", "periodic", "public", "constant", "add", "sub", "mul", "neg")
-_PLACES = ("every", "first", "last", "transition")
 # The operations on two nodes, and of each the constant that changes nothing behind it.
 _OPERATIONS: Dict[str, Tuple[Callable[[int, int], int], int]] = {
     "add": (operator.add, 0),
@@ -146,16 +142,8 @@ class Air:
     def __init__(self, columns: int, public_values: int = 0) -> None:
         if columns < 1 or public_values < 0:
             raise ValueError("expected at least 1 column and 0 public values")
-        self._nodes: List[_Node] = []
-        self._numbers: Dict[_Node, int] = {}
-        self._periodic_columns: List[Tuple[int, ...]] = []
-        self._constraints: List[_Constraint] = []
-        self.columns = self._reads("local", columns)
-        self.next_columns = self._reads("next", columns)
-        self.public_values = self._reads("public", public_values)
-        self.every_row, self.first_row, self.last_row, self.transition = (
-            Place(self, when) for when in _PLACES
-        )
+        self._begin([], [])
+        self._add_reads(columns, public_values)
 
     def periodic(self, entries: Sequence[int]) -> Expr:
         """A column that both sides know: row i has the entry i modulo their number, which is a
@@ -174,14 +162,43 @@ class Air:
     def expression(self, value: Operand) -> Expr:
         """The expression that a value stands for: itself, or a constant."""
         if not self._is_operand(value):
+            use = " (use assert_eq: `==` compares objects)" if isinstance(value, bool) else ""
             kind = type(value).__name__
-            raise TypeError(f"expected an expression or a whole number, got {kind}")
+            raise TypeError(f"expected an expression or a whole number, got {kind}{use}")
         return value if isinstance(value, Expr) else self.constant(value)
 
     @property
     def constraint_names(self) -> Tuple[Optional[str], ...]:
         """The names of the constraints, by number, and None for one without a name."""
         return tuple(it.name for it in self._constraints)
+
+    @classmethod
+    def from_value(cls, value: Any) -> "Air":
+        """The AIR with this JSON value, as `json.loads` returns it. It has the same digest, and its
+        constraints have no names. The value is the caller's own: its numbers of columns and public
+        values aren't limited.
+
+        Raises Unreadable if the value can't be read, and Refused, by the name in docs/STARK.md, if
+        it makes no AIR.
+        """
+        parts = Parts.from_value(value)
+        for name, applies in refusals(parts):
+            if applies:
+                raise Refused(name)
+        air = cls.__new__(cls)
+        air._begin([*parts.nodes], [*parts.periodic_columns])
+        air._constraints = [_Constraint(it.node, it.when, None) for it in parts.constraints]
+        air._add_reads(parts.width, parts.num_public_values)
+        return air
+
+    @classmethod
+    def from_json(cls, text: Union[str, bytes]) -> "Air":
+        """The AIR with this JSON text."""
+        return cls.from_value(parsed(text))
+
+    def to_json(self) -> str:
+        """The AIR's JSON text, with ascending keys."""
+        return compact(self.to_value())
 
     def to_value(self) -> Dict[str, Any]:
         """The AIR's JSON value (docs/STARK.md)."""
@@ -199,13 +216,43 @@ class Air:
         """The digest of the AIR, which `stark_tool verify` writes: 64 hexadecimal digits."""
         return hashlib.sha256(_text(self.to_value())).hexdigest()
 
+    def __eq__(self, other: object) -> bool:
+        if not isinstance(other, Air):
+            return NotImplemented
+        return self.to_value() == other.to_value()
+
+    # It grows while constraints are added to it. Its digest can be a key.
+    __hash__ = None  # type: ignore[assignment]
+
+    def __repr__(self) -> str:
+        counts = len(self.columns), len(self.public_values), len(self._constraints)
+        return "<Air: columns={}, public_values={}, constraints={}>".format(*counts)
+
+    def _begin(self, nodes: List[Node], periodic_columns: List[Tuple[int, ...]]) -> None:
+        """Takes nodes, which are kept as they are, and periodic columns."""
+        self._nodes, self._read = nodes, len(nodes)
+        self._numbers: Dict[Node, int] = {}
+        for number, node in enumerate(nodes):
+            self._numbers.setdefault(_key(node), number)
+        self._periodic_columns = periodic_columns
+        self._constraints: List[_Constraint] = []
+
+    def _add_reads(self, columns: int, public_values: int) -> None:
+        """Adds what is read, and the places."""
+        self.columns = self._reads("local", columns)
+        self.next_columns = self._reads("next", columns)
+        self.public_values = self._reads("public", public_values)
+        self.every_row, self.first_row, self.last_row, self.transition = (
+            Place(self, when) for when in PLACES
+        )
+
     def _reads(self, kind: str, count: int) -> Tuple[Expr, ...]:
         return tuple(self._expr(kind, it) for it in range(count))
 
     def _expr(self, kind: str, *operands: int) -> Expr:
         """The expression of a node, which is appended unless there is an equal one."""
         node = (kind, *operands)
-        key = (kind, *sorted(operands)) if kind in _COMMUTATIVE else node
+        key = _key(node)
         if key not in self._numbers:
             self._numbers[key] = len(self._nodes)
             self._nodes.append(node)
@@ -248,21 +295,27 @@ class Air:
         self._constraints.append(_Constraint(expr._node, when, name))
 
     def _kept(self) -> List[int]:
-        """The nodes that constraints use, in ascending order."""
-        used = {it.node for it in self._constraints}
+        """The nodes that constraints use or that were read, in ascending order."""
+        used = {it.node for it in self._constraints}.union(range(self._read))
         for node in reversed(range(len(self._nodes))):
             if node in used:
                 used.update(_earlier(self._nodes[node]))
         return sorted(used)
 
 
-def _earlier(node: _Node) -> Tuple[int, ...]:
+def _key(node: Node) -> Node:
+    """What equal nodes have in common."""
+    kind, *operands = node
+    return (kind, *sorted(operands)) if kind in _COMMUTATIVE else node
+
+
+def _earlier(node: Node) -> Tuple[int, ...]:
     """The nodes that a node is computed of."""
     kind, *operands = node
     return tuple(operands) if kind in _OPERATIONS or kind == "neg" else ()
 
 
-def _node_value(node: _Node, numbers: Dict[int, int]) -> Dict[str, Any]:
+def _node_value(node: Node, numbers: Dict[int, int]) -> Dict[str, Any]:
     """The value of JSON that stands for a node, of nodes with these numbers."""
     kind, operand, *_ = node
     earlier = [numbers[it] for it in _earlier(node)]
@@ -284,9 +337,9 @@ def _element_text(value: int) -> bytes:
 def _node_text(node: Dict[str, Any]) -> bytes:
     [(kind, operands)] = node.items()
     if kind == "constant":
-        return bytes([_KINDS.index(kind)]) + _element_text(operands)
+        return bytes([KINDS.index(kind)]) + _element_text(operands)
     numbers = operands if isinstance(operands, list) else [operands]
-    return bytes([_KINDS.index(kind)]) + b"".join(map(_be64, numbers))
+    return bytes([KINDS.index(kind)]) + b"".join(map(_be64, numbers))
 
 
 def _parts_of_text(air: Dict[str, Any]) -> Iterator[bytes]:
@@ -295,7 +348,7 @@ def _parts_of_text(air: Dict[str, Any]) -> Iterator[bytes]:
     yield _listed([_listed(list(map(_element_text, it))) for it in air["periodic_columns"]])
     yield _listed(list(map(_node_text, air["nodes"])))
     yield _listed(
-        [bytes([_PLACES.index(it["when"])]) + _be64(it["node"]) for it in air["constraints"]]
+        [bytes([PLACES.index(it["when"])]) + _be64(it["node"]) for it in air["constraints"]]
     )
 
 

@@ -2,6 +2,7 @@
 
 import contextlib
 import copy
+import re
 from typing import Iterator, Optional, Sequence, Union
 
 from .forms import Commitment, Cubic, element, list_of
@@ -59,7 +60,10 @@ class Challenger:
         """Absorbs bytes, or the 32 bytes of a commitment, as one piece: `observe(b"ab")` isn't
         `observe(b"a")` then `observe(b"b")`. Encode a name: `observe(name.encode())`."""
         if not isinstance(data, (bytes, bytearray, memoryview, Commitment)):
-            use = " (use `name.encode()`)" if isinstance(data, str) else ""
+            use = ""
+            if isinstance(data, str):
+                is_commitment = re.fullmatch("[0-9A-Fa-f]{64}", data)
+                use = " (use Commitment(text))" if is_commitment else " (use `name.encode()`)"
             raise TypeError(f"expected bytes or a Commitment, got {type(data).__name__}{use}")
         with advance(self) as state:
             absorb(state, bytes(data))

@@ -4,6 +4,27 @@ from typing import Any, Optional, Tuple
 
 __all__ = ["Error", "Refused", "Unreadable", "Unsatisfied"]
 
+_ROWS = "opened rows don't authenticate: often the statement, a value, the proof or the challenger"
+_ROWS += " differs from the prover's"
+_SHAPE = "the proof may be for other parameters or another number of rows"
+# What is shown beside a name that doesn't explain itself.
+_HINTS = {
+    "CommitPhaseMmcsError": _ROWS,
+    "CommitPhaseOpeningsCountMismatch": _SHAPE,
+    "CommitPhaseQueryCountMismatch": _SHAPE,
+    "CommitPowWitnessCountMismatch": _SHAPE,
+    "CommitRoundCountMismatch": _SHAPE,
+    "FinalPolyLengthMismatch": _SHAPE,
+    "FirstLayerMmcsError": _ROWS,
+    "InputMmcsError": _ROWS,
+    "InputShapeError": "the proof may be for other parameters, or for other claims",
+    "InvalidPowWitness": "the proof may be for other parameters, or for another statement",
+    "Memory": "the call ran out of memory, which is no verdict",
+    "NonCanonicalPowWitness": _SHAPE,
+    "ParametersDiffer": "the text has other parameters than the caller",
+    "SiblingValuesLengthMismatch": _SHAPE,
+}
+
 
 class Error(Exception):
     """There is no result. `name` is the reason's name in docs/PROGRAM.md."""
@@ -14,13 +35,28 @@ class Error(Exception):
 
 
 class Refused(Error):
-    """The input is refused. If `name` is `Memory`, the call ran out of memory: no verdict."""
+    """The input is refused. If `name` is `Memory`, the call ran out of memory: no verdict.
+
+    `name` says which test failed first, and not what is wrong: another public value usually shows
+    as `InputMmcsError`, since other rows are queried. The error's text adds what is likely.
+    """
+
+    def __init__(self, name: str, why: str = "") -> None:
+        super().__init__(name)
+        self.why = why or _HINTS.get(name, "")
+
+    def __reduce__(self) -> Tuple[Any, ...]:
+        return type(self), (self.name, self.why)
+
+    def __str__(self) -> str:
+        return self.name + (f": {self.why}" if self.why else "")
 
 
 class Unsatisfied(Refused):
     """A constraint doesn't hold at a row: the first such row, and its first such constraint.
 
-    `row` and `constraint` count from 0. `constraint_name` is the name that the constraint was
+    `row` and `constraint` count from 0. A transition is reported at the earlier of its two rows: a
+    wrong entry in row 3 often shows as row 2. `constraint_name` is the name that the constraint was
     given, or None.
     """
 

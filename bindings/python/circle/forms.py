@@ -43,6 +43,7 @@ __all__ = [
     "parsed",
     "record",
     "written",
+    "wrong",
 ]
 
 # An element of the challenge field: its three coefficients, each from 0 to 2^31 - 2.
@@ -58,7 +59,8 @@ _Read = Callable[[Any], Any]
 _R = TypeVar("_R", bound="Record")
 
 
-def _wrong(value: Any, wanted: str) -> Unreadable:
+def wrong(value: Any, wanted: str) -> Unreadable:
+    """The fault of a value that is of another kind."""
     is_long = isinstance(value, (list, tuple, collections.abc.Mapping))
     shown = f"a {type(value).__name__}" if is_long else reprlib.repr(value)
     return Unreadable("WrongKind", "", f"{shown} isn't {wanted}")
@@ -69,9 +71,9 @@ def _number(value: Any, wanted: str) -> int:
     try:
         found = operator.index(value)
     except TypeError:
-        raise _wrong(value, wanted) from None
+        raise wrong(value, wanted) from None
     if isinstance(value, bool) or not -(1 << 63) <= found < 1 << 64:
-        raise _wrong(value, wanted)
+        raise wrong(value, wanted)
     if found < 0:
         raise Unreadable("OutOfRange", "", f"{found} is negative")
     return found
@@ -93,7 +95,7 @@ def element(value: Any) -> int:
 
 def _digest(value: Any) -> str:
     if not isinstance(value, str):
-        raise _wrong(value, "a string of 64 hexadecimal digits")
+        raise wrong(value, "a string of 64 hexadecimal digits")
     if not re.fullmatch("[0-9A-Fa-f]{64}", value):
         raise Unreadable("BadHex", "", f"{reprlib.repr(value)} isn't 64 hexadecimal digits")
     return value.lower()
@@ -139,7 +141,7 @@ def _items(value: Any) -> Any:
         return value
     found = value.tolist() if hasattr(value, "tolist") else value
     if isinstance(found, (str, bytes)) or not isinstance(found, collections.abc.Sequence):
-        raise _wrong(value, "a list")
+        raise wrong(value, "a list")
     return found
 
 
@@ -242,7 +244,7 @@ class Record:
     def from_value(cls: Type[_R], value: Any) -> _R:
         """The record with this JSON value, as `json.loads` returns it."""
         if not isinstance(value, collections.abc.Mapping):
-            raise _wrong(value, "an object")
+            raise wrong(value, "an object")
         members = {it.name: it.metadata["may_be_missing"] for it in fields(cls)}
         required = [name for name, may_be_missing in members.items() if not may_be_missing]
         missing = next((name for name in required if name not in value), None)
