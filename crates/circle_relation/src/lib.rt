@@ -10,13 +10,13 @@
 //!
 //! Its files:
 //!
-//! - In `src/`, `run.rt`: `OpenedRun`, and `OverCircle`, by which a clause names the operations of
-//!   a field, its circle and an extension by one name.
+//! - In `src/`, `run.rt`: `OverCircle`, by which a clause names the operations of a field, its
+//!   circle and an extension by one name; the queries' values in codewords.
 //! - In `specs/`, `Statement`, `StatementOf`: claims, a proof and challenges. `Accepts`: the
 //!   relation, part by part. `Sums`, `Taken`: sums of quotients, and what a transcript absorbs.
-//!   `Reasons`, `Failures`: why a run is refused. `RunOf`: what is known of a run before it is
-//!   opened (`IsDrawn`) and once its lengths are tested (`IsOpened`), and the lists that calls hand
-//!   on. `Rows`: an opening. `TestsInOrder`: the first refusal that there is reason for.
+//!   `Reasons`, `Failures`: why a run is refused. `RunOf`: what the records of a proof and of
+//!   queries are to the relation. `Rows`: an opening. `TestsInOrder`: the first refusal that there
+//!   is reason for.
 //! - In `proofs/`, `Contradictions`: where the relation holds no refusal has a reason but want of
 //!   memory. `AtQueries`, `ReducedSums`, `Ends`: lists over queries. `Pairs`: loops over pairs.
 //!   `Described`: what describes a transcript. `Answering`, `Passed`: tests in order. `Kept`,
@@ -29,4 +29,4 @@ pub mod run;
 
 pub use error::{InputError, ProverError, VerifierError};
 pub use proof::{CircleCommitPhaseMultiStep, CircleFriProof, CircleInputProof, CirclePcsProof};
-pub use run::{OpenedRun, OverCircle, QueriedWord, QueryValues};
+pub use run::{OverCircle, QueriedWord, QueryValues};

@@ -1,14 +1,13 @@
 //! What a proof is made of.
 
 use circle_commit::{BatchMultiOpening, Mmcs};
-use circle_field::Field;
 
 /// A proof that the folded codewords of a run end in the values of a polynomial.
 ///
 /// `M` commits to the folded codewords, `Witness` shows a proof of work, and `InputProof` opens
 /// what the first of these codewords was made of.
 #[derive(Drop)]
-pub struct CircleFriProof<F: Field, M: Mmcs<F>, Witness, InputProof> {
+pub struct CircleFriProof<F: Copy, M: Mmcs<F>, Witness, InputProof> {
     /// For each round, the commitment to its codeword.
     pub commit_phase_commits: Vec<M::Commitment>,
     /// For each round, the witness of the proof of work before its challenge; zero where it has no
@@ -26,8 +25,8 @@ pub struct CircleFriProof<F: Field, M: Mmcs<F>, Witness, InputProof> {
 
 /// The openings of one round's codeword at all queries, with one proof for them all.
 #[derive(Drop)]
-#[derive_where(Debug)]
-pub struct CircleCommitPhaseMultiStep<F: Field, M: Mmcs<F>> {
+#[derive_where(Debug; F)]
+pub struct CircleCommitPhaseMultiStep<F: Copy, M: Mmcs<F>> {
     /// For each query, the other entries of the row that it falls into: one, as two entries fold
     /// into one.
     pub sibling_values: Vec<Vec<F>>,
@@ -38,8 +37,8 @@ pub struct CircleCommitPhaseMultiStep<F: Field, M: Mmcs<F>> {
 /// The openings, at all queries, of the committed batches and of the first layer.
 #[derive(Drop)]
 pub struct CircleInputProof<
-    Val: Field,
-    Challenge: Field,
+    Val: Copy,
+    Challenge: Copy,
     InputMmcs: Mmcs<Val>,
     FriMmcs: Mmcs<Challenge>,
 > {
@@ -57,8 +56,8 @@ pub struct CircleInputProof<
 /// `InputMmcs` commits to the batches, `FriMmcs` to the codewords that are made of them.
 #[derive(Drop)]
 pub struct CirclePcsProof<
-    Val: Field,
-    Challenge: Field,
+    Val: Copy,
+    Challenge: Copy,
     InputMmcs: Mmcs<Val>,
     FriMmcs: Mmcs<Challenge>,
     Witness,

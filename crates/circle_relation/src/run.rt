@@ -1,17 +1,16 @@
-//! What a verifier has of a run once its challenges are drawn.
+//! The operations of a field, its circle and an extension by one name, and the queries' values.
 ghost use Rattle.circle_relation.specs.Accepts.{Fields};
 
-use crate::proof::CirclePcsProof;
-use circle_commit::{CommitmentOpening, FriParameters, Mmcs};
-use circle_domain::CircleDomain;
-use circle_field::{ComplexExtendable, ExtensionField, Field};
+use circle_field::{ComplexExtendable, ExtensionField, Operations};
 use circle_point::Point;
 
 /// What is known to contracts of a field with its circle and of its extension.
 ///
-/// Each extension has it, so no function requires it: a clause cites `⟦<EF as
-/// OverCircle<F>>⟧.fields`.
-pub trait OverCircle<F: ComplexExtendable>: ExtensionField<F> {
+/// Each extension has it, so no function requires it. A struct whose ghost field cites `EF.fields`
+/// has it as a bound, and a clause reads the fields off a value of the struct; where there is no
+/// such value, it cites `⟦<EF as OverCircle<F>>⟧.fields`. The trait stands on `Copy` alone because
+/// each trait below a bound of a struct is an argument of its type in `specs/`.
+pub trait OverCircle<F>: Copy {
     ghost fields: { Fields F Self };
 }
 
@@ -27,39 +26,9 @@ impl<F: ComplexExtendable, EF: ExtensionField<F>> OverCircle<F> for EF {
     } };
 }
 
-/// What a verifier has of a run once its challenges are drawn: the schemes and the parameters, what
-/// is claimed, the proof, and what was drawn.
-#[derive(Drop)]
-pub struct OpenedRun<
-    'a,
-    Val: ComplexExtendable,
-    EF: ExtensionField<Val>,
-    InputMmcs: Mmcs<Val>,
-    FriMmcs: Mmcs<EF>,
-> {
-    /// The commitment scheme of the batches.
-    pub mmcs: &'a InputMmcs,
-    /// The parameters, with the commitment scheme of the codewords.
-    pub params: &'a FriParameters<FriMmcs>,
-    /// What is claimed of each batch.
-    pub claims: &'a [CommitmentOpening<EF, InputMmcs::Commitment, CircleDomain<Val>>],
-    /// The proof.
-    pub proof: &'a CirclePcsProof<Val, EF, InputMmcs, FriMmcs, Val>,
-    /// The binary logarithm of the greatest committed height.
-    pub log_max_height: usize,
-    /// The challenge that batches the claims.
-    pub alpha: EF,
-    /// The challenge that folds the first layer.
-    pub bivariate: EF,
-    /// The folding challenge of each round.
-    pub betas: &'a [EF],
-    /// The queries, each below the greatest committed height.
-    pub indices: &'a [usize],
-}
-
 /// The points and the values of all queries in a codeword of the first layer.
 #[derive(Drop)]
-pub struct QueriedWord<F: Field, EF> {
+pub struct QueriedWord<F: Operations, EF> {
     /// The binary logarithm of the codeword's length.
     pub log_height: usize,
     /// The point of each query.
