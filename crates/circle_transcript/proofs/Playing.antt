@@ -2,7 +2,7 @@
 use Rattle.std.proofs.Common.{◌≡◌, ℕ, ◌+◌, ◌<◌, List, [], ◌∷◌, ◌++◌, length, drop, take, flat_map}
 use Rattle.std.proofs.Common.{get_or, Some, slice_get, refl, sym, ap, subst, inl, inr, ◌∙◌}
 use Rattle.std.proofs.Common.{append_assoc}
-use Rattle.std.specs.Prelude.{Result, Ok, Err, OnOk, IsErrAnd, IfErr, Option, None, IsNone}
+use Rattle.std.specs.Prelude.{Result, Ok, Err, OnOk, IsErrAnd, IfOk, IfErr, Option, None, IsNone}
 use Rattle.std.specs.Prelude.{unwrap_or, All, ◌⊎◌}
 use Rattle.std.proofs.lemmas.List.{append-nil, drop_more, take_more}
 use Rattle.std.proofs.lemmas.List.Elements.{All-push}
@@ -66,10 +66,15 @@ pub take_read : {A : Type 0} (xs : List A) (i : ℕ) (x : A) → i < length xs �
     take (i + 1) xs ≡ take i xs ++ x ∷ []
 take_read xs i x within is = take_more xs i x within ∙ ap (λ v. take i xs ++ v ∷ []) (sym is)
 
--- what a fact gives where there is a value
-pub on_ok : {A E P Q : Type 0} (r : Result A E) → (P → Q) → OnOk r P → OnOk r Q
-on_ok (Ok x) f p = f p
-on_ok (Err e) f p = tt
+-- what is drawn between two states of a challenger, told of the states before and after
+pub drawn_between : {A E X S C : Type 0} (r : Result A E) (f : A → X) (state : C → S)
+    (draw : S → X) (after : S → S) (old begun ended new : C) → begun ≡ old → new ≡ ended →
+    IfOk r (λ v. f v ≡ draw (state begun)) → OnOk r (state ended ≡ after (state begun)) →
+    IfOk r (λ v. ◌≡◌ {A = X × S} (f v, state new) (draw (state old), after (state old)))
+drawn_between (Ok v) f state draw after old begun ended new first last drawn left =
+    ap (λ x. (x, state new)) (drawn ∙ ap (λ c. draw (state c)) first)
+    ∙ ap (λ t. (draw (state old), t)) (ap state last ∙ left ∙ ap (λ c. after (state c)) first)
+drawn_between (Err e) f state draw after old begun ended new first last drawn left = tt
 
 -- what holds of an error that is handed on
 pub handed_on : {A E : Type 0} (r : Result A E) (e : E) (P : E → Type 0) → IsErrAnd r (λ x. x ≡ e) →

@@ -1,5 +1,5 @@
 -- Rounds one after another.
-use Rattle.std.specs.Prelude.{zip, Bool, true, false, ◌&&◌, IsTrue}
+use Rattle.std.specs.Prelude.{zip, true, Result, Ok, Err}
 use Rattle.std.proofs.Common.{◌≡◌, ℕ, suc, ◌+◌, ◌-◌, ◌<◌, ◌≤◌, List, [], ◌∷◌, ◌++◌, length, take}
 use Rattle.std.proofs.Common.{drop, get_or, slice_get, refl, sym, ap, ◌∙◌, subst, arith}
 use Rattle.std.proofs.Common.{append_assoc}
@@ -12,9 +12,10 @@ use Rattle.circle_transcript.specs.declared.transcript.Numbers.{Numbers}
 use Rattle.circle_transcript.specs.Numbers.{indices_steps}
 use Rattle.circle_transcript.specs.Runs.{NonePasses, HasStuckRound}
 use Rattle.circle_transcript.proofs.Playing.{take_read}
-use Rattle.circle_challenger.specs.Moves.{RunMoves, is_passed}
-use Rattle.circle_transcript.specs.Draw.{after_round, fold_challenge, after_rounds, fold_challenges}
-use Rattle.circle_transcript.specs.Draw.{rounds_pass}
+use Rattle.circle_challenger.specs.Moves.{RunMoves}
+use Rattle.circle_commit.specs.declared.params.PowPhase.{PowPhase}
+use Rattle.circle_transcript.specs.Draw.{after_rounds, rounds_pass, and_then, commit_round}
+use Rattle.circle_transcript.specs.Draw.{play_rounds}
 
 -- lists beside lists, one after another
 pub zip-append : {A B : Type 0} (us cs : List A) (vs ds : List B) → length us ≡ length vs →
@@ -33,99 +34,75 @@ zip_front [] (b ∷ vs) few = absurd (omega arith)
 zip_front (a ∷ us) [] few = refl
 zip_front (a ∷ us) (b ∷ vs) few = ap (λ v. (a, b) ∷ v) (zip_front us vs (omega arith))
 
-true_of : (b : Bool) → IsTrue b → b ≡ true
-true_of b h = h
-
-and_assoc : (a b c : Bool) → ((a && b) && c) ≡ (a && (b && c))
-and_assoc true b c = refl
-and_assoc false b c = refl
-
 module _ {C S F E Com : Type 0} (r : RunMoves C S F E Com) (bits : ℕ) where
-  pub after_rounds-append : (s : S) (us vs : List (Com × F)) → after_rounds r bits s (us ++ vs)
-      ≡ after_rounds r bits (after_rounds r bits s us) vs
-  unfolding after_rounds
-  after_rounds-append s [] vs = refl
-  after_rounds-append s (a ∷ us) vs = after_rounds-append (after_round r bits s a) us vs
+  -- challenges before others
+  abbrev before : List F → List (List F) × S → Result (List (List F) × S) PowPhase
+  before y rest = Ok (y ∷ rest.0, rest.1)
 
-  pub fold_challenges-append : (s : S) (us vs : List (Com × F)) →
-      fold_challenges r bits s (us ++ vs) ≡ fold_challenges r bits s us
-      ++ fold_challenges r bits (after_rounds r bits s us) vs
-  unfolding after_rounds fold_challenges
-  fold_challenges-append s [] vs = refl
-  fold_challenges-append s (a ∷ us) vs =
-      ap (λ v. fold_challenge r bits s a ∷ v)
-      (fold_challenges-append (after_round r bits s a) us vs)
+  abbrev joined : List (List F) → List (List F) × S → Result (List (List F) × S) PowPhase
+  joined ys rest = Ok (ys ++ rest.0, rest.1)
 
-  pub rounds_pass-append : (s : S) (us vs : List (Com × F)) → rounds_pass r bits s (us ++ vs)
-      ≡ (rounds_pass r bits s us && rounds_pass r bits (after_rounds r bits s us) vs)
-  unfolding after_rounds rounds_pass
-  rounds_pass-append s [] vs = refl
-  rounds_pass-append s (a ∷ us) vs =
-      ap (λ v. is_passed r.base (r.after_commitment s a.0) bits a.1 && v)
-      (rounds_pass-append (after_round r bits s a) us vs)
-      ∙ sym
-      (and_assoc (is_passed r.base (r.after_commitment s a.0) bits a.1)
-      (rounds_pass r bits (after_round r bits s a) us)
-      (rounds_pass r bits (after_rounds r bits (after_round r bits s a) us) vs))
+  -- rounds, and what follows them
+  abbrev then_rounds : List (Com × F) → Result (List (List F) × S) PowPhase
+      → Result (List (List F) × S) PowPhase
+  then_rounds vs t = and_then t (λ a. and_then (play_rounds r bits a.1 vs) (joined a.0))
 
-  -- these rounds were played with witnesses that pass, and these are their challenges
-  pub record ArePlayed (begun now : S) (rounds : List (Com × F)) (betas : List (List F)) : Type 0
-    where
-      pub passes : rounds_pass r bits begun rounds ≡ true
-      pub challenges : betas ≡ fold_challenges r bits begun rounds
-      pub state : now ≡ after_rounds r bits begun rounds
+  after_none : (t : Result (List (List F) × S) PowPhase) → t ≡ and_then t (joined [])
+  after_none (Ok a) = refl
+  after_none (Err phase) = refl
 
-  -- one more round
-  module _ (begun now : S) (rounds next : List (Com × F)) (x : Com × F)
-      (more : next ≡ rounds ++ x ∷ []) (before : now ≡ after_rounds r bits begun rounds) where
-    last_pass : rounds_pass r bits begun rounds ≡ true → rounds_pass r bits begun next
-        ≡ (is_passed r.base (r.after_commitment now x.0) bits x.1 && true)
-    unfolding rounds_pass
-    last_pass passed =
-        ap (rounds_pass r bits begun) more ∙ rounds_pass-append begun rounds (x ∷ [])
-        ∙ ap (λ v. v && rounds_pass r bits (after_rounds r bits begun rounds) (x ∷ [])) passed
-        ∙ ap (λ s. is_passed r.base (r.after_commitment s x.0) bits x.1 && true) (sym before)
+  after_inner : (y : List F) (ys : List (List F)) (t : Result (List (List F) × S) PowPhase) →
+      and_then (and_then t (joined ys)) (before y) ≡ and_then t (joined (y ∷ ys))
+  after_inner y ys (Ok a) = refl
+  after_inner y ys (Err phase) = refl
 
-    pub misses_more : rounds_pass r bits begun rounds ≡ true → (b : ℕ) → b ≡ bits →
-        is_passed r.base (r.after_commitment now x.0) b x.1 ≡ false → rounds_pass r bits begun next
-        ≡ false
-    misses_more passed b same here =
-        last_pass passed
-        ∙ ap (λ v. v && true)
-        (subst (λ k. is_passed r.base (r.after_commitment now x.0) k x.1 ≡ false) same here)
+  after_step : (y : List F) (t : Result (List (List F) × S) PowPhase) (vs : List (Com × F)) →
+      and_then (then_rounds vs t) (before y) ≡ then_rounds vs (and_then t (before y))
+  after_step y (Ok a) vs = after_inner y a.0 (play_rounds r bits a.1 vs)
+  after_step y (Err phase) vs = refl
 
-    -- its witness passes at a difficulty that is the same, and its challenge is drawn
-    pub one_more : (ys zs : List (List F)) (y : List F) (after : S) (b : ℕ) → b ≡ bits →
-        rounds_pass r bits begun rounds ≡ true → ys ≡ fold_challenges r bits begun rounds
-        → IsTrue (is_passed r.base (r.after_commitment now x.0) b x.1) →
-        y ≡ fold_challenge r b now x → zs ≡ ys ++ y ∷ [] → after ≡ after_round r b now x →
-        ArePlayed begun after next zs
-    unfolding after_rounds fold_challenges
-    one_more ys zs y after b same passed so_far passes drawn pushed state = record {
-      passes =
-          last_pass passed
-          ∙ ap (λ v. v && true)
-          (true_of _
-          (subst (λ k. IsTrue (is_passed r.base (r.after_commitment now x.0) k x.1)) same
-          passes));
-      challenges =
-          pushed ∙ ap (λ v. v ++ y ∷ []) so_far
-          ∙ ap (λ v. fold_challenges r bits begun rounds ++ v ∷ [])
-          (drawn ∙ ap (λ k. fold_challenge r k now x) same
-          ∙ ap (λ s. fold_challenge r bits s x) before)
-          ∙ sym (ap (fold_challenges r bits begun) more
-          ∙ fold_challenges-append begun rounds (x ∷ []));
-      state =
-          state ∙ ap (λ k. after_round r k now x) same ∙ ap (λ s. after_round r bits s x) before
-          ∙ sym (ap (after_rounds r bits begun) more ∙ after_rounds-append begun rounds (x ∷ []));
-    }
+  after_first : (t : Result (List F × S) PowPhase) (us vs : List (Com × F)) →
+      ((s : S) → play_rounds r bits s (us ++ vs) ≡ then_rounds vs (play_rounds r bits s us)) →
+      and_then t (λ first. and_then (play_rounds r bits first.1 (us ++ vs)) (before first.0))
+      ≡ then_rounds vs
+      (and_then t (λ first. and_then (play_rounds r bits first.1 us) (before first.0)))
+  after_first (Ok a) us vs rest =
+      ap (λ t. and_then t (before a.0)) (rest a.1) ∙ after_step a.0 (play_rounds r bits a.1 us) vs
+  after_first (Err phase) us vs rest = refl
 
-  -- where a part misses, the whole does
-  pub misses_all : (begun : S) (all part rest : List (Com × F)) → all ≡ part ++ rest →
-      rounds_pass r bits begun part ≡ false → rounds_pass r bits begun all ≡ false
-  misses_all begun all part rest split missed =
-      ap (rounds_pass r bits begun) split ∙ rounds_pass-append begun part rest
-      ∙ ap (λ v. v && rounds_pass r bits (after_rounds r bits begun part) rest) missed
+  rounds-append : (s : S) (us vs : List (Com × F)) →
+      play_rounds r bits s (us ++ vs) ≡ then_rounds vs (play_rounds r bits s us)
+  unfolding play_rounds
+  rounds-append s [] vs = after_none (play_rounds r bits s vs)
+  rounds-append s (a ∷ us) vs =
+      after_first (commit_round r bits s a.0 a.1) us vs (λ t. rounds-append t us vs)
+
+  -- one more round, at a difficulty that is the same
+  module _ (begun now : S) (rounds : List (Com × F)) (ys : List (List F)) (x : Com × F) (b : ℕ)
+      (same : b ≡ bits) (so_far : play_rounds r bits begun rounds ≡ Ok (ys, now)) where
+    pub rounds_more : (next : List (Com × F)) (zs : List (List F)) (y : List F) (after : S) →
+        next ≡ rounds ++ x ∷ [] → commit_round r b now x.0 x.1 ≡ Ok (y, after) → zs ≡ ys ++ y ∷ []
+        → play_rounds r bits begun next ≡ Ok (zs, after)
+    unfolding play_rounds
+    rounds_more next zs y after more drawn pushed =
+        ap (play_rounds r bits begun) more ∙ rounds-append begun rounds (x ∷ [])
+        ∙ ap (then_rounds (x ∷ [])) so_far
+        ∙ ap (λ t. and_then (and_then t (λ first. Ok (first.0 ∷ [], first.1))) (joined ys))
+        (subst (λ k. commit_round r k now x.0 x.1 ≡ Ok (y, after)) same drawn)
+        ∙ ap (λ v. Ok (v, after)) (sym pushed)
+
+    -- where it fails all the rounds do
+    pub rounds_missed : (all rest : List (Com × F)) (phase : PowPhase) →
+        all ≡ (rounds ++ x ∷ []) ++ rest → commit_round r b now x.0 x.1 ≡ Err phase →
+        play_rounds r bits begun all ≡ Err phase
+    unfolding play_rounds
+    rounds_missed all rest phase split missed =
+        ap (play_rounds r bits begun) (split ∙ append_assoc rounds (x ∷ []) rest)
+        ∙ rounds-append begun rounds (x ∷ rest) ∙ ap (then_rounds (x ∷ rest)) so_far
+        ∙ ap
+        (λ t. and_then
+        (and_then t (λ first. and_then (play_rounds r bits first.1 rest) (before first.0)))
+        (joined ys)) (subst (λ k. commit_round r k now x.0 x.1 ≡ Err phase) same missed)
 
 -- one more value of two lists of one length
 pub zip_more : {A B : Type 0} (us : List A) (vs : List B) (i : ℕ) (a : A) (b : B) → i < length us →

@@ -1,5 +1,6 @@
 -- What a run draws, as functions of the challenger's state.
-use Rattle.std.specs.Prelude.{◌≡◌, ℕ, Bool, Some, true, ◌&&◌, if◌then◌else◌, List, [], ◌∷◌, length}
+use Rattle.std.specs.Prelude.{◌≡◌, ℕ, ◌<◌, ◌≤◌, ◌^◌, Bool, Some, true, ◌&&◌, if◌then◌else◌, List}
+use Rattle.std.specs.Prelude.{[], ◌∷◌, length}
 use Rattle.std.specs.Prelude.{map}
 use Rattle.std.specs.Prelude.{flat_map, Result, Ok, Err}
 use Rattle.circle_field.specs.Circle.{Coordinates}
@@ -65,6 +66,20 @@ unfoldable pub after_claims_by : {S F E : Type 0} → (S → F → S) → (E →
 after_claims_by after_observe coefficients s claims =
     after_all after_observe s (flat_map coefficients (flat_map claim_elements claims))
 
+-- what a proof of work guards, where its witness passes, or else its phase
+abbrev pub guarded : {A : Type 0} → PowPhase → Bool → A → Result A PowPhase
+guarded phase passed a = if passed then Ok a else Err phase
+
+-- what follows where nothing is refused
+abbrev pub and_then : {A B : Type 0} → Result A PowPhase → (A → Result B PowPhase)
+    → Result B PowPhase
+and_then (Ok a) next = next a
+and_then (Err phase) next = Err phase
+
+-- numbers are drawn below the power of two of their number of bits
+abbrev pub DrawsInRange : {C S F E Com : Type 0} → RunMoves C S F E Com → Type 0
+DrawsInRange {S = S} r = (s : S) (bits : ℕ) → bits ≤ 63 → r.base.sampled_bits s bits < 2 ^ bits
+
 module _ {C S F E : Type 0} (m : Moves C S F E) where
   -- the state after the claims
   abbrev pub after_claims : S → List (Claim E) → S
@@ -81,7 +96,59 @@ module _ {C S F E : Type 0} (m : Moves C S F E) where
   abbrev pub after_indices : Numbers → S → S
   after_indices n s = after_numbers m n.index_bits n.num_queries s
 
+  -- a challenge or the query indices, with the state after them
+  abbrev pub element : S → List F × S
+  element s = (drawn_element m s, after_element m s)
+
+  abbrev pub indices : Numbers → S → List ℕ × S
+  indices n s = (drawn_indices n s, after_indices n s)
+
+  -- the phase of the claims, which draws the challenge that batches them
+  abbrev pub batch_phase : Numbers → S → List (Claim E) → F → Result (List F × S) PowPhase
+  batch_phase n s claims w =
+      guarded Batch (is_passed m (after_claims s claims) n.batch_pow_bits w)
+      (element (after_pow m (after_claims s claims) n.batch_pow_bits w))
+
+  -- the phase of the final polynomial, which draws the query indices
+  abbrev pub query_phase : Numbers → S → List E → F → Result (List ℕ × S) PowPhase
+  query_phase n s final_poly w =
+      guarded Query (is_passed m (after_final_poly s final_poly) n.query_pow_bits w)
+      (indices n (after_pow m (after_final_poly s final_poly) n.query_pow_bits w))
+
 module _ {C S F E Com : Type 0} (r : RunMoves C S F E Com) where
+  -- the first layer's commitment, and the challenge that folds that layer
+  abbrev pub first_layer : S → Com → List F × S
+  first_layer s commitment = element r.base (r.after_commitment s commitment)
+
+  -- a round: its commitment, and the challenge that folds what it commits to
+  abbrev pub commit_round : ℕ → S → Com → F → Result (List F × S) PowPhase
+  commit_round bits s commitment w =
+      guarded CommitPhase (is_passed r.base (r.after_commitment s commitment) bits w)
+      (element r.base (after_pow r.base (r.after_commitment s commitment) bits w))
+
+  -- rounds one after another
+  unfoldable pub play_rounds : ℕ → S → List (Com × F) → Result (List (List F) × S) PowPhase
+  play_rounds bits s [] = Ok ([], s)
+  play_rounds bits s (round ∷ rounds) =
+      and_then (commit_round bits s round.0 round.1) (λ first.
+      and_then (play_rounds bits first.1 rounds) (λ rest. Ok (first.0 ∷ rest.0, rest.1)))
+
+  -- a run from the state after its seed, phase by phase: what it draws, or the phase of the first
+  -- witness that doesn't pass
+  unfoldable pub draw_seeded : Numbers → Taken F E Com → S → Result (Drawn S F) PowPhase
+  draw_seeded n taken s =
+      and_then (batch_phase r.base n s taken.claims taken.batch_witness) (λ batch.
+      let layer = first_layer batch.1 taken.first_layer in
+      and_then (play_rounds n.commit_pow_bits layer.1 taken.rounds) (λ rounds.
+      and_then (query_phase r.base n rounds.1 taken.final_poly taken.query_witness) (λ queries.
+      Ok (record {
+        alpha = batch.0;
+        bivariate = layer.0;
+        betas = rounds.0;
+        indices = queries.0;
+        state = queries.1;
+      }))))
+
   -- the state after a round, and its challenge
   abbrev pub after_round : ℕ → S → Com × F → S
   after_round bits s round =
@@ -147,16 +214,6 @@ module _ {C S F E Com : Type 0} (r : RunMoves C S F E Com) where
       indices = drawn_indices r.base n queried;
       state = after_indices r.base n queried;
     }
-
-    -- what the run draws, or the phase of the first witness that doesn't pass
-    unfoldable pub draw_seeded : Result (Drawn S F) PowPhase
-    draw_seeded =
-        if is_passed r.base claimed n.batch_pow_bits taken.batch_witness then
-        (if rounds_pass n.commit_pow_bits (after_element r.base layered) taken.rounds then
-        (if is_passed r.base closed n.query_pow_bits taken.query_witness then Ok drawn
-        else Err Query)
-        else Err CommitPhase)
-        else Err Batch
 
   -- the state after the seed's text
   abbrev pub seeded : Shape → S → S

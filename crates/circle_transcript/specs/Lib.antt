@@ -5,6 +5,5 @@ pub mod Failure
 pub mod Draw
 pub mod Claims
 pub mod Transcript
-pub mod Play
 pub mod Rows
 pub mod Runs

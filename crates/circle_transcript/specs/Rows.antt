@@ -1,5 +1,12 @@
 -- The definitions at worked examples. Expected values were computed apart from these definitions.
-use Rattle.std.specs.Prelude.{◌≡◌, [], ◌∷◌, ◌++◌, length, take, drop, codes, refl}
+use Rattle.std.specs.Prelude.{◌≡◌, ℕ, List, [], ◌∷◌, ◌++◌, length, take, drop, codes, refl}
+use Rattle.std.specs.Prelude.{slice_index_or, Some, Ok, Err}
+use Rattle.circle_challenger.specs.Moves.{RunMoves, run_moves}
+use Rattle.circle_challenger.specs.Sampling.{samples, after_samples}
+use Rattle.circle_commit.specs.declared.params.PowPhase.TheVariants.{CommitPhase}
+use Rattle.circle_transcript.specs.Draw.{Taken, claim, taken, after_claims_by, play_rounds}
+use Rattle.circle_transcript.specs.Draw.{draw_seeded}
+use Rattle.circle_transcript.specs.Numbers.{numbers_of}
 use Rattle.circle_challenger.specs.Step.{be64, step_text}
 use Rattle.circle_challenger.specs.Separator.{steps_text, labels_text}
 use Rattle.circle_challenger.specs.Played.{element_message, elements_message, opaque_message}
@@ -108,3 +115,34 @@ two_points : layout (((4 ∷ 4 ∷ []) ∷ []) ∷ []) ≡ 0 ∷ 0 ∷ 0 ∷ 0 �
     ∷ 0 ∷ 0 ∷ 1 ∷ 0 ∷ 0 ∷ 0 ∷ 0 ∷ 0 ∷ 0 ∷ 0 ∷ 2 ∷ []
 unfolding layout batch_layout be64
 two_points = refl
+
+-- a challenger whose state is what it absorbed and drew, the last first: it draws how many values
+-- that are, and as bits the last of them
+counting : RunMoves (List ℕ) (List ℕ) ℕ ℕ ℕ
+counting = run_moves (λ s. s) (λ s x. x ∷ s) (λ s x. x ∷ s) length (λ s. 0 ∷ s)
+    (λ s bits. slice_index_or s 0 0) (λ s bits. bits ∷ s) (λ s bits. Some 0) 1 (λ x. x ∷ [])
+    (λ n. n)
+    0
+
+-- the example's run with it: the point (5, 6) with the value 7, the commitments 9 and 8, and the
+-- coefficient 4
+counted : Taken ℕ ℕ ℕ
+counted =
+    taken (claim (record { x = 5; y = 6 }) (7 ∷ []) ∷ []) 1 9 ((8, 1) ∷ []) (4 ∷ []) 1
+
+example_draw : draw_seeded counting (numbers_of example) counted []
+    ≡ Ok (record {
+      alpha = 3 ∷ [];
+      bivariate = 5 ∷ [];
+      betas = (7 ∷ []) ∷ [];
+      indices = 4 ∷ 3 ∷ [];
+      state = 3 ∷ 3 ∷ 4 ∷ 0 ∷ 8 ∷ 0 ∷ 9 ∷ 0 ∷ 7 ∷ 6 ∷ 5 ∷ [];
+    })
+unfolding example counting counted draw_seeded play_rounds after_claims_by samples after_samples
+example_draw = refl
+
+-- where the rounds have a difficulty, the witness 1 doesn't pass
+missed_draw : draw_seeded counting (numbers_of (record example { commit_pow_bits = 8 })) counted []
+    ≡ Err CommitPhase
+unfolding example counting counted draw_seeded play_rounds after_claims_by samples after_samples
+missed_draw = refl

@@ -17,12 +17,12 @@ use Rattle.circle_transcript.specs.declared.transcript.CircleTranscript.{CircleT
 use Rattle.circle_transcript.specs.declared.transcript.Numbers.{Numbers}
 use Rattle.circle_transcript.specs.Claims.{claims_of}
 use Rattle.circle_transcript.specs.Draw.{Claim, Taken, taken, Drawn, claimed, layered, closed}
-use Rattle.circle_transcript.specs.Draw.{after_rounds, rounds_pass, draw_seeded, draw, seeded}
+use Rattle.circle_transcript.specs.Draw.{after_rounds, rounds_pass, play_rounds, draw_seeded, draw}
+use Rattle.circle_transcript.specs.Draw.{seeded}
 use Rattle.circle_transcript.specs.Failure.{phase_of}
 use Rattle.circle_transcript.specs.Numbers.{numbers_of, difficulty_of}
 use Rattle.circle_transcript.specs.ShapeOf.{shape_of}
-use Rattle.circle_transcript.specs.Transcript.{current, numbers, no_witness, bad_witness}
-use Rattle.circle_transcript.specs.Transcript.{commits_pass}
+use Rattle.circle_transcript.specs.Transcript.{current, state_of, run_of, numbers, no_witness}
 
 -- the numbers that a run can be played with
 pub record ArePlayable (n : Numbers) : Type 0 where
@@ -56,7 +56,7 @@ drawn_of coefficients d state = record {
 }
 
 -- the draw fails in the phase that the failure names, with that phase's difficulty
-pub record IsMiss {S F : Type 0} (n : Numbers) (drawn : Result (Drawn S F) PowPhase)
+pub record IsMiss {A : Type 0} (n : Numbers) (drawn : Result A PowPhase)
     (e : CircleTranscriptFailure) : Type 0 where
   pub named : e ≡ PowWitness (phase_of e) (difficulty_of n (phase_of e))
   pub failed : drawn ≡ Err (phase_of e)
@@ -150,36 +150,44 @@ module _ {C S F E Com : Type 0} (r : RunMoves C S F E Com) where
       (seeded r (shape_of shape) (r.base.state old)) e
 
 -- likewise for the rest of a run, from a transcript whose seed was absorbed
-module _ {C S F E Com Side : Type 0} (r : RunMoves C S F E Com) where
-  -- it draws these from the first transcript, and leaves the other
-  abbrev pub DrawsFrom : CircleTranscript C F E Side → Taken F E Com → CircleDraws E
-      → CircleTranscript C F E Side → Type 0
-  DrawsFrom old taken d new =
-      draw_seeded r (numbers old) taken (r.base.state (current old))
-      ≡ Ok (drawn_leaving r d (current new))
+module _ {C F E Com Side S : Type 0} {g d : _} (old : CircleTranscript C F E Com Side S g d) where
+  -- it draws these, and leaves the other transcript
+  abbrev pub DrawsFrom : Taken F E Com → CircleDraws E → CircleTranscript C F E Com Side S g d
+      → Type 0
+  DrawsFrom taken d new =
+      draw_seeded (run_of old) (numbers old) taken (state_of old)
+      ≡ Ok (drawn_leaving (run_of old) d (current new))
 
   -- it fails where a witness doesn't pass
-  abbrev pub MissesFrom : CircleTranscript C F E Side → Taken F E Com → CircleTranscriptFailure
-      → Type 0
-  MissesFrom old taken e =
-      IsMiss (numbers old) (draw_seeded r (numbers old) taken (r.base.state (current old))) e
+  abbrev pub MissesFrom : Taken F E Com → CircleTranscriptFailure → Type 0
+  MissesFrom taken e =
+      IsMiss (numbers old) (draw_seeded (run_of old) (numbers old) taken (state_of old)) e
 
   -- it fails where no witness passes
-  abbrev pub FindsNoneFrom : {g : _} → CircleTranscript C F E Side
-      → List (Point E g × Bor (List E)) → CircleMessages E Com
+  abbrev pub FindsNoneFrom : {h : _} → List (Point E h × Bor (List E)) → CircleMessages E Com
       → CircleTranscriptFailure → Type 0
-  FindsNoneFrom old claims messages e =
-      IsStuck r (numbers old) (claims_of claims) messages (r.base.state (current old)) e
+  FindsNoneFrom claims messages e =
+      IsStuck (run_of old) (numbers old) (claims_of claims) messages (state_of old) e
 
-  -- the rounds fail where a witness doesn't pass
-  abbrev pub MissesInRounds : CircleTranscript C F E Side → List Com → List F
-      → CircleTranscriptFailure → Type 0
-  MissesInRounds old commitments witnesses e =
-      (e ≡ bad_witness CommitPhase old) × (commits_pass r old commitments witnesses ≡ false)
+  -- the rounds of these commitments, with a witness for each
+  abbrev pub rounds_from : List Com → List F → Result (List (List F) × S) PowPhase
+  rounds_from commitments witnesses =
+      play_rounds (run_of old) (numbers old).commit_pow_bits (state_of old)
+      (zip commitments witnesses)
 
-  -- the rounds fail where no witness passes
-  abbrev pub FindsNoneInRounds : CircleTranscript C F E Side → List Com
-      → CircleTranscriptFailure → Type 0
-  FindsNoneInRounds old commitments e =
-      (e ≡ no_witness CommitPhase old)
-      × HasStuckRound r (numbers old).commit_pow_bits (r.base.state (current old)) commitments
+  -- they were played and drew these challenges
+  abbrev pub HavePlayed : CircleTranscript C F E Com Side S g d → List Com → List F
+      → List (List F) → Type 0
+  HavePlayed new commitments witnesses betas =
+      rounds_from commitments witnesses ≡ Ok (betas, state_of new)
+
+  -- they fail where a witness doesn't pass
+  abbrev pub MissesInRounds : List Com → List F → CircleTranscriptFailure → Type 0
+  MissesInRounds commitments witnesses e =
+      IsMiss (numbers old) (rounds_from commitments witnesses) e
+
+  -- they fail where no witness passes
+  abbrev pub FindsNoneInRounds : List Com → CircleTranscriptFailure → Type 0
+  FindsNoneInRounds commitments e =
+      (e ≡ no_witness old CommitPhase)
+      × HasStuckRound (run_of old) (numbers old).commit_pow_bits (state_of old) commitments

@@ -1,139 +1,126 @@
--- What contracts see of a transcript of the scheme.
-use Rattle.std.specs.Prelude.{◌≡◌, ℕ, Bool, List, Option, length, zip}
-use Rattle.std.specs.Borrow.{Bor, MutBor}
-use Rattle.circle_challenger.specs.Moves.{Moves, RunMoves, is_passed, after_pow, drawn_element}
-use Rattle.circle_challenger.specs.Moves.{after_element, found_at}
+-- What contracts see of a transcript of the scheme. Its type carries what its challenger is to a
+-- run.
+use Rattle.std.specs.Prelude.{◌≡◌, ℕ, Bool, List, Option, Result, Ok, Err, length}
+use Rattle.std.specs.Borrow.{MutBor}
+use Rattle.circle_challenger.specs.Moves.{RunMoves, is_passed, after_pow, found_at}
+use Rattle.circle_challenger.specs.Moves.{drawn_numbers, after_numbers}
 use Rattle.circle_challenger.specs.Step.{Step}
 use Rattle.circle_commit.specs.declared.params.PowPhase.{PowPhase}
-use Rattle.circle_point.specs.declared.point.Point.{Point}
-use Rattle.circle_transcript.specs.Claims.{claims_of}
 use Rattle.circle_transcript.specs.Numbers.{difficulty_of}
 use Rattle.circle_transcript.specs.Shape.{batch_steps, rounds_steps}
-use Rattle.circle_transcript.specs.Draw.{widths_of, after_claims, after_rounds, fold_challenges}
-use Rattle.circle_transcript.specs.Draw.{rounds_pass, after_final_poly, drawn_indices}
-use Rattle.circle_transcript.specs.Draw.{after_indices}
+use Rattle.circle_transcript.specs.Draw.{Claim, widths_of, after_claims, after_final_poly, element}
+use Rattle.circle_transcript.specs.Draw.{batch_phase, query_phase, first_layer}
+use Rattle.circle_transcript.specs.Draw.{commit_round}
 use Rattle.circle_transcript.specs.declared.failure.CircleTranscriptFailure.{CircleTranscriptFailure}
 use Rattle.circle_transcript.specs.declared.failure.CircleTranscriptFailure.TheVariants.{PowWitness}
 use Rattle.circle_transcript.specs.declared.failure.CircleTranscriptFailure.TheVariants.{NoWitness}
 use Rattle.circle_transcript.specs.declared.transcript.CircleTranscript.{CircleTranscript}
 use Rattle.circle_transcript.specs.declared.transcript.Numbers.{Numbers}
 
-module _ {C F EF S : Type 0} where
-  -- the challenger as it is now
-  abbrev pub current : CircleTranscript C F EF S → C
-  current t = t.challenger.now
+-- a phase, where its failure says how hard its proof of work is
+abbrev pub or_bad_witness : {A : Type 0} → Numbers → Result A PowPhase
+    → Result A CircleTranscriptFailure
+or_bad_witness n (Ok a) = Ok a
+or_bad_witness n (Err phase) = Err (PowWitness phase (difficulty_of n phase))
+
+module _ {C F EF Com Side S : Type 0} {g d : _} (t : CircleTranscript C F EF Com Side S g d) where
+  -- the challenger as it is now, and its state
+  abbrev pub current : C
+  current = t.challenger.now
+
+  abbrev pub state_of : S
+  state_of = g.run.base.state current
 
   -- the steps that are still due
-  abbrev pub due : CircleTranscript C F EF S → List Step
-  due t = t.due.steps
-
-  -- the borrowed challenger and the numbers of the shape are the same
-  pub record IsSame (old new : CircleTranscript C F EF S) : Type 0 where
-    pub challenger : new.challenger.ghost_name ≡ old.challenger.ghost_name
-    pub shape : new.shape ≡ old.shape
+  abbrev pub due : List Step
+  due = t.due.steps
 
   -- what is played is the borrowed challenger
-  abbrev pub Borrows : CircleTranscript C F EF S → MutBor C → Type 0
-  Borrows t challenger = t.challenger.ghost_name ≡ challenger.ghost_name
+  abbrev pub Borrows : MutBor C → Type 0
+  Borrows challenger = t.challenger.ghost_name ≡ challenger.ghost_name
 
   -- what its calls read of the shape
-  abbrev pub numbers : CircleTranscript C F EF S → Numbers
-  numbers t = t.shape
+  abbrev pub numbers : Numbers
+  numbers = t.shape
+
+  -- what its challenger is to a run
+  abbrev pub run_of : RunMoves C S F EF Com
+  run_of = g.run
+
+  -- in the other the borrowed challenger and the numbers of the shape are the same
+  pub record IsSame (new : CircleTranscript C F EF Com Side S g d) : Type 0 where
+    pub challenger : new.challenger.ghost_name ≡ t.challenger.ghost_name
+    pub shape : new.shape ≡ t.shape
 
   -- the failure where no witness passes in this phase, and where the one at hand doesn't
-  abbrev pub no_witness : PowPhase → CircleTranscript C F EF S → CircleTranscriptFailure
-  no_witness phase t = NoWitness phase (difficulty_of (numbers t) phase)
+  abbrev pub no_witness : PowPhase → CircleTranscriptFailure
+  no_witness phase = NoWitness phase (difficulty_of t.shape phase)
 
-  abbrev pub bad_witness : PowPhase → CircleTranscript C F EF S → CircleTranscriptFailure
-  bad_witness phase t = PowWitness phase (difficulty_of (numbers t) phase)
+  abbrev pub bad_witness : PowPhase → CircleTranscriptFailure
+  bad_witness phase = PowWitness phase (difficulty_of t.shape phase)
 
-  -- the steps of a round for each of these commitments
-  abbrev pub steps_of_rounds : {Com : Type 0} → ℕ → CircleTranscript C F EF S → List Com
-      → List Step
-  steps_of_rounds degree t commitments = rounds_steps degree t.shape.commit_pow_bits
-      (length commitments)
+  -- what a call returned, with the state after it
+  abbrev pub outcome : {A B : Type 0} → (A → B) → Result A CircleTranscriptFailure
+      → Result (B × S) CircleTranscriptFailure
+  outcome value (Ok a) = Ok (value a, state_of)
+  outcome value (Err e) = Err e
 
--- the phases as functions of a transcript that is about to play them: the steps, the state in which
--- the witness is checked, whether it passes, the one that a search finds, what is drawn then, and
--- the state after it
-module _ {C S F EF Side : Type 0} {g : _} (m : Moves C S F EF) (t : CircleTranscript C F EF Side)
-    (claims : List (Point EF g × Bor (List EF))) where
-  abbrev pub steps_of_batch : List Step
-  steps_of_batch = batch_steps m.degree (widths_of (claims_of claims)) t.shape.batch_pow_bits
+  -- the steps of claims, and of a round for each of these commitments
+  abbrev pub steps_of_batch : List (Claim EF) → List Step
+  steps_of_batch claims = batch_steps g.run.base.degree (widths_of claims) t.shape.batch_pow_bits
 
-  abbrev pub at_batch_pow : S
-  at_batch_pow = after_claims m (m.state (current t)) (claims_of claims)
+  abbrev pub steps_of_rounds : List Com → List Step
+  steps_of_rounds commitments =
+      rounds_steps g.run.base.degree t.shape.commit_pow_bits (length commitments)
 
-  abbrev pub batch_passes : F → Bool
-  batch_passes w = is_passed m at_batch_pow t.shape.batch_pow_bits w
+  -- from its state on: whether a witness passes at a difficulty, the one that a search finds, and
+  -- the state after one was absorbed
+  abbrev pub witness_passes : ℕ → F → Bool
+  witness_passes bits w = is_passed g.run.base state_of bits w
 
-  abbrev pub batch_found : Option F
-  batch_found = found_at m at_batch_pow t.shape.batch_pow_bits
+  abbrev pub witness_found : ℕ → Option F
+  witness_found bits = found_at g.run.base state_of bits
 
-  abbrev pub batch_challenge : F → List F
-  batch_challenge w = drawn_element m (after_pow m at_batch_pow t.shape.batch_pow_bits w)
+  abbrev pub after_witness : ℕ → F → S
+  after_witness bits w = after_pow g.run.base state_of bits w
 
-  abbrev pub after_batch : F → S
-  after_batch w = after_element m (after_pow m at_batch_pow t.shape.batch_pow_bits w)
+  -- a challenge, and `count` numbers of `width` bits
+  abbrev pub element_from : List F × S
+  element_from = element g.run.base state_of
 
-module _ {C S F EF Com Side : Type 0} (r : RunMoves C S F EF Com) (t : CircleTranscript C F EF Side)
-    (commitment : Com) where
-  -- the state after a commitment was absorbed
-  abbrev pub at_commitment : S
-  at_commitment = r.after_commitment (r.base.state (current t)) commitment
+  abbrev pub numbers_from : ℕ → ℕ → List ℕ × S
+  numbers_from width count =
+      (drawn_numbers g.run.base width count state_of, after_numbers g.run.base width count state_of)
 
-  -- the first layer, whose challenge no proof of work guards: the challenge, and the state after it
-  abbrev pub first_layer_challenge : List F
-  first_layer_challenge = drawn_element r.base at_commitment
+  -- the states in which the witness of a phase is looked for
+  abbrev pub at_batch_pow : List (Claim EF) → S
+  at_batch_pow claims = after_claims g.run.base state_of claims
 
-  abbrev pub after_first_layer : S
-  after_first_layer = after_element r.base at_commitment
+  abbrev pub at_commitment : Com → S
+  at_commitment commitment = g.run.after_commitment state_of commitment
 
-  -- a round: whether a witness passes, the one that a search finds, the challenge, and the state
-  -- after it
-  abbrev pub commit_passes : F → Bool
-  commit_passes w = is_passed r.base at_commitment t.shape.commit_pow_bits w
+  abbrev pub at_query_pow : List EF → S
+  at_query_pow final_poly = after_final_poly g.run.base state_of final_poly
 
-  abbrev pub commit_found : Option F
-  commit_found = found_at r.base at_commitment t.shape.commit_pow_bits
+  -- the phases, with a witness
+  abbrev pub batch_from : List (Claim EF) → F → Result (List F × S) PowPhase
+  batch_from claims w = batch_phase g.run.base t.shape state_of claims w
 
-  abbrev pub commit_challenge : F → List F
-  commit_challenge w = drawn_element r.base (after_pow r.base at_commitment
-      t.shape.commit_pow_bits w)
+  abbrev pub first_layer_from : Com → List F × S
+  first_layer_from commitment = first_layer g.run state_of commitment
 
-  abbrev pub after_commit : F → S
-  after_commit w = after_element r.base (after_pow r.base at_commitment t.shape.commit_pow_bits w)
+  abbrev pub commit_from : Com → F → Result (List F × S) PowPhase
+  commit_from commitment w = commit_round g.run t.shape.commit_pow_bits state_of commitment w
 
--- all the rounds, with a witness for each commitment
-module _ {C S F EF Com Side : Type 0} (r : RunMoves C S F EF Com) (t : CircleTranscript C F EF Side)
-    (commitments : List Com) where
-  abbrev pub commits_pass : List F → Bool
-  commits_pass ws = rounds_pass r t.shape.commit_pow_bits (r.base.state (current t))
-      (zip commitments ws)
+  abbrev pub query_from : List EF → F → Result (List ℕ × S) PowPhase
+  query_from final_poly w = query_phase g.run.base t.shape state_of final_poly w
 
-  abbrev pub commit_challenges : List F → List (List F)
-  commit_challenges ws = fold_challenges r t.shape.commit_pow_bits (r.base.state (current t))
-      (zip commitments ws)
+  -- the witnesses that searches in them find
+  abbrev pub batch_found : List (Claim EF) → Option F
+  batch_found claims = found_at g.run.base (at_batch_pow claims) t.shape.batch_pow_bits
 
-  abbrev pub after_commits : List F → S
-  after_commits ws = after_rounds r t.shape.commit_pow_bits (r.base.state (current t))
-      (zip commitments ws)
+  abbrev pub commit_found : Com → Option F
+  commit_found commitment = found_at g.run.base (at_commitment commitment) t.shape.commit_pow_bits
 
--- the queries: the state in which the witness is checked, whether it passes, the one that a search
--- finds, the indices, and the state after them
-module _ {C S F EF Side : Type 0} (m : Moves C S F EF) (t : CircleTranscript C F EF Side)
-    (final_poly : List EF) where
-  abbrev pub at_query_pow : S
-  at_query_pow = after_final_poly m (m.state (current t)) final_poly
-
-  abbrev pub query_passes : F → Bool
-  query_passes w = is_passed m at_query_pow t.shape.query_pow_bits w
-
-  abbrev pub query_found : Option F
-  query_found = found_at m at_query_pow t.shape.query_pow_bits
-
-  abbrev pub query_indices : F → List ℕ
-  query_indices w = drawn_indices m t.shape (after_pow m at_query_pow t.shape.query_pow_bits w)
-
-  abbrev pub after_query : F → S
-  after_query w = after_indices m t.shape (after_pow m at_query_pow t.shape.query_pow_bits w)
+  abbrev pub query_found : List EF → Option F
+  query_found final_poly = found_at g.run.base (at_query_pow final_poly) t.shape.query_pow_bits

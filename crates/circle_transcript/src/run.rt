@@ -9,11 +9,11 @@ ghost use Rattle.circle_transcript.specs.Draw.{widths_of};
 ghost use Rattle.circle_transcript.specs.Claims.{claims_of};
 ghost use Rattle.circle_transcript.specs.Numbers.{numbers_of, run_steps};
 ghost use Rattle.circle_transcript.specs.Transcript.{current, due, numbers, IsSame};
-ghost use Rattle.circle_transcript.specs.Transcript.{steps_of_rounds, commits_pass};
-ghost use Rattle.circle_transcript.specs.Transcript.{commit_challenges, after_commits};
+ghost use Rattle.circle_transcript.specs.Transcript.{steps_of_rounds};
 ghost use Rattle.circle_transcript.specs.Runs.{ArePlayable, taken_of, drawn_leaving, Draws};
 ghost use Rattle.circle_transcript.specs.Runs.{DrawsWithSome, Misses, FindsNone, DrawsFrom, MissesFrom};
 ghost use Rattle.circle_transcript.specs.Runs.{FindsNoneFrom, MissesInRounds, FindsNoneInRounds};
+ghost use Rattle.circle_transcript.specs.Runs.{HavePlayed};
 
 use crate::{
     CirclePcsShape, CircleProverTranscript, CircleTranscriptFailure, CircleVerifierTranscript,
@@ -64,27 +64,23 @@ pub struct CircleWitnesses<F> {
 /// most 63.
 fn checking_rounds<'a, F: Field, EF: ExtensionField<F>, C, Com>(
     alloc: Global,
-    transcript: &mut CircleVerifierTranscript<'a, C, F, EF>,
+    transcript: &mut CircleVerifierTranscript<'a, C, F, EF, Com>,
     commitments: &[Com],
     witnesses: &[F],
 ) -> Result<Vec<EF>, CircleTranscriptFailure>
 where
     C: CanSample<F> + GrindingChallenger<F> + CanObserve<Com>,
-    requires next { AreNext (steps_of_rounds EF.DEGREE transcript.old commitments.now)
+    requires next { AreNext (steps_of_rounds transcript.old commitments.now)
         (due transcript.old) }
     requires paired { length witnesses.now ≡ length commitments.now }
     requires small { (numbers transcript.old).commit_pow_bits ≤ 63 }
     ensures same { IsSame transcript.old transcript.new }
-    ensures due { OnOk result (HasPlayed (steps_of_rounds EF.DEGREE transcript.old commitments.now)
+    ensures due { OnOk result (HasPlayed (steps_of_rounds transcript.old commitments.now)
         (due transcript.old) (due transcript.new)) }
-    ensures passes { let m = ⟦<C as RunChallenger<F, EF, Com>>⟧.run in OnOk result
-        (commits_pass m transcript.old commitments.now witnesses.now ≡ true) }
-    ensures challenges { IfOk result (λ v. map EF.coefficients v.items ≡ commit_challenges
-        ⟦<C as RunChallenger<F, EF, Com>>⟧.run transcript.old commitments.now witnesses.now) }
-    ensures state { OnOk result (C.state (current transcript.new) ≡ after_commits
-        ⟦<C as RunChallenger<F, EF, Com>>⟧.run transcript.old commitments.now witnesses.now) }
-    ensures failure { let m = ⟦<C as RunChallenger<F, EF, Com>>⟧.run in IfErr result
-        (IsMemoryOr (MissesInRounds m transcript.old commitments.now witnesses.now)) }
+    ensures played { IfOk result (λ v. HavePlayed transcript.old transcript.new commitments.now
+        witnesses.now (map EF.coefficients v.items)) }
+    ensures failure { IfErr result
+        (IsMemoryOr (MissesInRounds transcript.old commitments.now witnesses.now)) }
 {
     let mut betas = Vec::new(alloc);
     for (i, commitment) in commitments.iter().enumerate() {
@@ -103,7 +99,7 @@ where
 /// as the shape says, and difficulties and a number of bits of an index of at most 63.
 fn checking_run<'a, F: Field, EF: ExtensionField<F>, C, Com>(
     alloc: Global,
-    transcript: &mut CircleVerifierTranscript<'a, C, F, EF>,
+    transcript: &mut CircleVerifierTranscript<'a, C, F, EF, Com>,
     claims: &[OpeningClaim<EF>],
     messages: &CircleMessages<EF, Com>,
     witnesses: &CircleWitnesses<F>,
@@ -121,9 +117,9 @@ where
     ensures below { IfOk result (λ d. All (λ i. i < 2 ^ (numbers transcript.old).index_bits)
         d.indices.items) }
     ensures draws { let taken = taken_of claims.now messages.now witnesses.now in IfOk result (λ d.
-        DrawsFrom ⟦<C as RunChallenger<F, EF, Com>>⟧.run transcript.old taken d transcript.new) }
+        DrawsFrom transcript.old taken d transcript.new) }
     ensures failure { let taken = taken_of claims.now messages.now witnesses.now in IfErr result
-        (IsMemoryOr (MissesFrom ⟦<C as RunChallenger<F, EF, Com>>⟧.run transcript.old taken)) }
+        (IsMemoryOr (MissesFrom transcript.old taken)) }
 {
     let alpha = transcript.batch_phase(claims, witnesses.batch)?;
     let bivariate = transcript.first_layer(messages.first_layer);
@@ -165,8 +161,8 @@ where
     ensures failure { let taken = taken_of claims.now messages.now witnesses.now in IfErr result
         (IsMemoryOr (Misses ⟦<C as RunChallenger<F, EF, Com>>⟧.run shape taken challenger.old)) }
 {
-    let seeded = CircleVerifierTranscript::<C, F, EF>::seeded(alloc, challenger, shape)?;
-    let mut transcript = CircleVerifierTranscript::<C, F, EF>::of_seeded(challenger, seeded);
+    let seeded = CircleVerifierTranscript::<C, F, EF, Com>::seeded(alloc, challenger, shape)?;
+    let mut transcript = CircleVerifierTranscript::<C, F, EF, Com>::of_seeded(challenger, seeded);
     match checking_run(alloc, &mut transcript, claims, messages, witnesses) {
         Ok(draws) => {
             transcript.finish();
@@ -184,28 +180,24 @@ where
 /// Requires that these are the next steps, and a difficulty of at most 63.
 fn grinding_rounds<'a, F: Field, EF: ExtensionField<F>, C, Com>(
     alloc: Global,
-    transcript: &mut CircleProverTranscript<'a, C, F, EF>,
+    transcript: &mut CircleProverTranscript<'a, C, F, EF, Com>,
     commitments: &[Com],
 ) -> Result<(Vec<EF>, Vec<F>), CircleTranscriptFailure>
 where
     C: CanSample<F> + GrindingChallenger<F> + CanObserve<Com>,
-    requires next { AreNext (steps_of_rounds EF.DEGREE transcript.old commitments.now)
+    requires next { AreNext (steps_of_rounds transcript.old commitments.now)
         (due transcript.old) }
     requires small { (numbers transcript.old).commit_pow_bits ≤ 63 }
     ensures same { IsSame transcript.old transcript.new }
-    ensures due { OnOk result (HasPlayed (steps_of_rounds EF.DEGREE transcript.old commitments.now)
+    ensures due { OnOk result (HasPlayed (steps_of_rounds transcript.old commitments.now)
         (due transcript.old) (due transcript.new)) }
     ensures count { IfOk result (λ r. length r.1.items ≡ length commitments.now) }
     ensures easy { IfOk result (λ r. (numbers transcript.old).commit_pow_bits ≡ 0 →
         All (λ w. w ≡ F.ops.zero) r.1.items) }
-    ensures passes { let m = ⟦<C as RunChallenger<F, EF, Com>>⟧.run in IfOk result (λ r.
-        commits_pass m transcript.old commitments.now r.1.items ≡ true) }
-    ensures challenges { IfOk result (λ r. map EF.coefficients r.0.items ≡ commit_challenges
-        ⟦<C as RunChallenger<F, EF, Com>>⟧.run transcript.old commitments.now r.1.items) }
-    ensures state { IfOk result (λ r. C.state (current transcript.new) ≡ after_commits
-        ⟦<C as RunChallenger<F, EF, Com>>⟧.run transcript.old commitments.now r.1.items) }
-    ensures failure { let m = ⟦<C as RunChallenger<F, EF, Com>>⟧.run in IfErr result
-        (IsMemoryOr (FindsNoneInRounds m transcript.old commitments.now)) }
+    ensures played { IfOk result (λ r. HavePlayed transcript.old transcript.new commitments.now
+        r.1.items (map EF.coefficients r.0.items)) }
+    ensures failure { IfErr result
+        (IsMemoryOr (FindsNoneInRounds transcript.old commitments.now)) }
 {
     let mut betas = Vec::new(alloc);
     let mut witnesses = Vec::new(alloc);
@@ -237,7 +229,7 @@ fn or_zero<F: Field>(witness: Option<F>) -> F
 /// difficulties and a number of bits of an index of at most 63.
 fn grinding_run<'a, F: Field, EF: ExtensionField<F>, C, Com>(
     alloc: Global,
-    transcript: &mut CircleProverTranscript<'a, C, F, EF>,
+    transcript: &mut CircleProverTranscript<'a, C, F, EF, Com>,
     claims: &[OpeningClaim<EF>],
     messages: &CircleMessages<EF, Com>,
 ) -> Result<(CircleDraws<EF>, CircleWitnesses<F>), CircleTranscriptFailure>
@@ -260,10 +252,10 @@ where
         (numbers transcript.old).query_pow_bits ≡ 0 → r.1.query ≡ F.ops.zero) }
     ensures below { IfOk result (λ r. All (λ i. i < 2 ^ (numbers transcript.old).index_bits)
         r.0.indices.items) }
-    ensures draws { let m = ⟦<C as RunChallenger<F, EF, Com>>⟧.run in IfOk result (λ r.
-        DrawsFrom m transcript.old (taken_of claims.now messages.now r.1) r.0 transcript.new) }
-    ensures failure { let m = ⟦<C as RunChallenger<F, EF, Com>>⟧.run in IfErr result
-        (IsMemoryOr (FindsNoneFrom m transcript.old claims.now messages.now)) }
+    ensures draws { IfOk result (λ r.
+        DrawsFrom transcript.old (taken_of claims.now messages.now r.1) r.0 transcript.new) }
+    ensures failure { IfErr result
+        (IsMemoryOr (FindsNoneFrom transcript.old claims.now messages.now)) }
 {
     let (alpha, batch) = transcript.batch_phase(claims)?;
     let bivariate = transcript.first_layer(messages.first_layer);
@@ -318,8 +310,8 @@ where
     ensures failure { let m = ⟦<C as RunChallenger<F, EF, Com>>⟧.run in IfErr result
         (IsMemoryOr (FindsNone m shape claims.now messages.now challenger.old)) }
 {
-    let seeded = CircleProverTranscript::<C, F, EF>::seeded(alloc, challenger, shape)?;
-    let mut transcript = CircleProverTranscript::<C, F, EF>::of_seeded(challenger, seeded);
+    let seeded = CircleProverTranscript::<C, F, EF, Com>::seeded(alloc, challenger, shape)?;
+    let mut transcript = CircleProverTranscript::<C, F, EF, Com>::of_seeded(challenger, seeded);
     match grinding_run(alloc, &mut transcript, claims, messages) {
         Ok(draws) => {
             transcript.finish();

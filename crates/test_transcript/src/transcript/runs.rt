@@ -49,9 +49,12 @@ fn abandoned(
     challenger: &mut Sha256Challenger,
 ) -> Result<Cubic, CircleTranscriptFailure> {
     let shape = CirclePcsShape::new(&params(1, NONE), Vec::new(alloc), 3, 1);
-    let mut transcript = CircleVerifierTranscript::<Sha256Challenger, Mersenne31, Cubic>::new(
-        alloc, challenger, shape,
-    )?;
+    let mut transcript = CircleVerifierTranscript::<
+        Sha256Challenger,
+        Mersenne31,
+        Cubic,
+        [u8; 32],
+    >::new(alloc, challenger, shape)?;
     let drawn = transcript.batch_phase(&[], element(0));
     transcript.abort();
     drawn

@@ -1,36 +1,25 @@
-use Rattle.std.specs.Prelude.{◌⊎◌, Ok, Err, All, IfErr}
-use Rattle.std.proofs.Common.{◌≡◌, ◌<◌, ◌≤◌, ◌^◌, ◌++◌, List, [], length, refl, sym, ap, ◌∙◌, subst}
-use Rattle.std.proofs.Common.{inl, inr}
-use Rattle.circle_commit.specs.declared.params.PowPhase.TheVariants.{Batch, CommitPhase, Query}
+use Rattle.std.specs.Prelude.{◌⊎◌, Ok, All, IfErr}
+use Rattle.std.proofs.Common.{◌≡◌, ◌<◌, ◌≤◌, ◌^◌, ◌++◌, List, [], length, refl, sym, ap, ◌∙◌}
+use Rattle.std.proofs.Common.{inl, inr, subst}
 use Rattle.std.specs.Borrow.{Bor}
 use Rattle.circle_point.specs.declared.point.Point.{Point}
+use Rattle.circle_transcript.specs.declared.failure.CircleTranscriptFailure.TheVariants.{Memory}
 use Rattle.circle_transcript.specs.declared.run.CircleMessages.{CircleMessages}
 use Rattle.circle_transcript.specs.declared.run.CircleWitnesses.{CircleWitnesses}
 use Rattle.circle_transcript.specs.Claims.{claims_of}
-use Rattle.circle_field.specs.Field.{of_nat}
-use Rattle.circle_challenger.specs.Moves.{RunMoves, run_moves, after_element}
-use Rattle.circle_transcript.specs.declared.failure.CircleTranscriptFailure.TheVariants.{Memory}
 use Rattle.circle_transcript.specs.Draw.{Taken, draw_seeded}
 use Rattle.circle_transcript.specs.Runs.{taken_with, taken_of, drawn_of, IsMiss}
 use Rattle.circle_transcript.specs.Shape.{rounds_steps}
 use Rattle.circle_transcript.specs.Numbers.{indices_steps}
 use Rattle.circle_transcript.specs.declared.transcript.Numbers.{Numbers}
-use Rattle.circle_transcript.specs.Transcript.{numbers}
+use Rattle.circle_transcript.specs.Transcript.{numbers, outcome, run_of, state_of}
 use Rattle.circle_transcript.proofs.Playing.{handed_on}
+use Rattle.circle_transcript.proofs.Phases.{gave, missed, not_refused, same_failure}
 use Rattle.circle_transcript.proofs.Runs.{indices_due}
-use Rattle.circle_transcript.proofs.Drawn.{AtRounds, at_layer, at_query, missed_in, misses_batch}
-use Rattle.circle_transcript.proofs.Drawn.{misses_rounds, misses_query, all_drawn}
-use Rattle.circle_transcript.proofs.run.checking_run.Given.{Over}
+use Rattle.circle_transcript.proofs.Drawn.{AtRounds, at_query, miss_moved, fails_batch}
+use Rattle.circle_transcript.proofs.Drawn.{fails_rounds}
+use Rattle.circle_transcript.proofs.Drawn.{fails_query, all_drawn}
 use Rattle.circle_transcript.proofs.run.checking_run.Goals as goal
-
--- what the challenger is to the run
-abbrev challenger : (g : Over) →
-    RunMoves g.row.C.Denot g.row.C-State.Denot g.row.F.Denot g.row.EF.Denot g.row.Com.Denot
-challenger g = run_moves g.C.ChallengerState.state g.C.CanObserve-1.after_observe
-    g.C.CanObserve-2.after_observe g.C.CanSample.sampled g.C.CanSample.after_sample
-    g.C.CanSampleBits.sampled_bits g.C.CanSampleBits.after_bits g.C.GrindingChallenger.found_witness
-    g.EF.ExtensionField.DEGREE g.EF.ExtensionField.coefficients (of_nat g.F.Operations.ops)
-    g.F.Operations.ops.zero
 
 -- what the run absorbs, with this list of the rounds' witnesses
 abbrev taken_beside : {F E Com : Type 0} {g : _} → List (Point E g × Bor (List E)) →
@@ -40,48 +29,57 @@ taken_beside claims messages witnesses rounds =
 
 pub returns-in_err-alpha-clause-failure : goal.returns-in_err-alpha-clause-failure
 returns-in_err-alpha-clause-failure g c =
-    let r = challenger g in
-    let n = numbers c.args.transcript.now in
-    let s = g.C.ChallengerState.state c.args.transcript.now.challenger.now in
+    let old = c.args.transcript.now in
+    let r = run_of old in
+    let n = numbers old in
+    let s = state_of old in
+    let coefficients = g.EF.ExtensionField.coefficients in
     let all = taken_of c.args.claims.now c.args.messages.now c.args.witnesses.now in
-    handed_on c.from_residual.result c.in_err-alpha.field-0.0
-    (λ e. (e ≡ Memory) ⊎ IsMiss n (draw_seeded r n all s) e) c.from_residual.ensures.1
+    let e = c.in_err-alpha.field-0.0 in
+    handed_on c.from_residual.result e (λ e. (e ≡ Memory) ⊎ IsMiss n (draw_seeded r n all s) e)
+    c.from_residual.ensures.1
     (inr
-    (missed_in
-    n (draw_seeded r n all s) Batch c.in_err-alpha.field-0.0 _ c.in_err-alpha.ensures.failure
-    refl (misses_batch r n all s c.in_err-alpha.ensures.missed)))
+    (miss_moved n n _ (draw_seeded r n all s) e refl (fails_batch r n all s)
+    (missed n _ e (ap (outcome c.batch_phase.new.self coefficients) (sym c.in_err-alpha.was)
+    ∙ c.batch_phase.ensures.played))))
 
 pub returns-in_err-betas-clause-failure : goal.returns-in_err-betas-clause-failure
 returns-in_err-betas-clause-failure g c =
-    let r = challenger g in
-    let n = numbers c.args.transcript.now in
-    let s = g.C.ChallengerState.state c.args.transcript.now.challenger.now in
+    let old = c.args.transcript.now in
+    let r = run_of old in
+    let n = numbers old in
+    let s = state_of old in
+    let coefficients = g.EF.ExtensionField.coefficients in
     let all = taken_beside c.args.claims.now c.args.messages.now c.args.witnesses.now
     c.deref.result.now in
     let same2 = c.first_layer-bivariate.ensures.same.shape ∙ c.batch_phase.ensures.same.shape in
-    let second : AtRounds r n all s (numbers c.first_layer-bivariate.new.self)
-    (g.C.ChallengerState.state c.first_layer-bivariate.new.self.challenger.now) =
+    let second : AtRounds r n all s (coefficients c.in_ok-alpha.alpha)
+    (coefficients c.first_layer-bivariate.result) (numbers c.first_layer-bivariate.new.self)
+    (state_of c.first_layer-bivariate.new.self) =
     record {
       same = same2;
-      batch = c.in_ok-alpha.ensures.passes;
-      state =
-          c.first_layer-bivariate.ensures.state
-          ∙ ap (after_element r.base) (at_layer r n all s _ c.in_ok-alpha.ensures.state);
+      after = state_of c.batch_phase.new.self;
+      batch =
+          gave n _ _ (ap (outcome c.batch_phase.new.self coefficients) (sym c.in_ok-alpha.was)
+          ∙ c.batch_phase.ensures.played);
+      layer = c.first_layer-bivariate.ensures.played;
     } in
+    let e = c.in_err-betas.field-0.0 in
     subst
     (λ v. IfErr c.from_residual-in_err-betas.result
     (λ e. (e ≡ Memory)
     ⊎ IsMiss n
     (draw_seeded r n (taken_beside c.args.claims.now c.args.messages.now c.args.witnesses.now v)
     s) e)) c.deref.ensures.value
-    (handed_on c.from_residual-in_err-betas.result c.in_err-betas.field-0.0
+    (handed_on c.from_residual-in_err-betas.result e
     (λ e. (e ≡ Memory) ⊎ IsMiss n (draw_seeded r n all s) e)
     c.from_residual-in_err-betas.ensures.1
     (elim c.in_err-betas.ensures.failure [
       | inl refused ↦ inl refused
-      | inr missed ↦
-          inr (missed_in n (draw_seeded r n all s) CommitPhase c.in_err-betas.field-0.0 _ missed.0
-          (ap (λ v. v.commit_pow_bits) same2) (misses_rounds r n all s _ _ second missed.1))
+      | inr miss ↦
+          inr
+          (miss_moved _ n _ (draw_seeded r n all s) e same2
+          (fails_rounds r n all s _ _ _ _ second) miss)
     ]))
 
 -- the steps that are due before the indices
@@ -106,64 +104,72 @@ returns-clause-due g c =
 
 pub returns-in_err-indices-clause-failure : goal.returns-in_err-indices-clause-failure
 returns-in_err-indices-clause-failure g c =
-    let r = challenger g in
-    let n = numbers c.args.transcript.now in
-    let s = g.C.ChallengerState.state c.args.transcript.now.challenger.now in
+    let old = c.args.transcript.now in
+    let r = run_of old in
+    let n = numbers old in
+    let s = state_of old in
+    let coefficients = g.EF.ExtensionField.coefficients in
     let all = taken_beside c.args.claims.now c.args.messages.now c.args.witnesses.now
     c.deref.result.now in
     let same2 = c.first_layer-bivariate.ensures.same.shape ∙ c.batch_phase.ensures.same.shape in
-    let second : AtRounds r n all s (numbers c.first_layer-bivariate.new.self)
-    (g.C.ChallengerState.state c.first_layer-bivariate.new.self.challenger.now) =
+    let second : AtRounds r n all s (coefficients c.in_ok-alpha.alpha)
+    (coefficients c.first_layer-bivariate.result) (numbers c.first_layer-bivariate.new.self)
+    (state_of c.first_layer-bivariate.new.self) =
     record {
       same = same2;
-      batch = c.in_ok-alpha.ensures.passes;
-      state =
-          c.first_layer-bivariate.ensures.state
-          ∙ ap (after_element r.base) (at_layer r n all s _ c.in_ok-alpha.ensures.state);
+      after = state_of c.batch_phase.new.self;
+      batch =
+          gave n _ _ (ap (outcome c.batch_phase.new.self coefficients) (sym c.in_ok-alpha.was)
+          ∙ c.batch_phase.ensures.played);
+      layer = c.first_layer-bivariate.ensures.played;
     } in
-    let third = at_query r n all s (numbers c.checking_rounds.new.transcript) _ _ _ second
-    c.checking_rounds.ensures.same.shape c.in_ok-betas.ensures.passes
-    c.in_ok-betas.ensures.state in
+    let third = at_query r n all s _ _ _ (numbers c.checking_rounds.new.transcript) _ _ _ second
+    c.checking_rounds.ensures.same.shape c.in_ok-betas.ensures.played in
+    let e = c.in_err-indices.field-0.0 in
     subst
     (λ v. IfErr c.from_residual-in_err-indices.result
     (λ e. (e ≡ Memory)
     ⊎ IsMiss n
     (draw_seeded r n (taken_beside c.args.claims.now c.args.messages.now c.args.witnesses.now v)
     s) e)) c.deref.ensures.value
-    (handed_on c.from_residual-in_err-indices.result c.in_err-indices.field-0.0
+    (handed_on c.from_residual-in_err-indices.result e
     (λ e. (e ≡ Memory) ⊎ IsMiss n (draw_seeded r n all s) e)
     c.from_residual-in_err-indices.ensures.1
-    (elim c.in_err-indices.ensures.failure [
-      | inl refused ↦ inl refused
-      | inr missed ↦
+    (elim c.query_phase.ensures.played [
+      | inl refused ↦ inl (same_failure c.query_phase.result e Memory c.in_err-indices.was refused)
+      | inr played ↦
           inr
-          (missed_in n (draw_seeded r n all s) Query c.in_err-indices.field-0.0 _ missed
-          (ap (λ v. v.query_pow_bits) (c.checking_rounds.ensures.same.shape ∙ same2))
-          (misses_query r n all s _ _ third
-          (c.query_phase.ensures.missed (c.in_err-indices.was ∙ ap Err missed))))
+          (miss_moved _ n _ (draw_seeded r n all s) e
+          (c.checking_rounds.ensures.same.shape ∙ same2)
+          (fails_query r n all s _ _ _ _ _ third)
+          (missed _ _ e
+          (ap (outcome c.query_phase.new.self (λ v. v.items)) (sym c.in_err-indices.was)
+          ∙ played)))
     ]))
 
 pub returns-clause-draws : goal.returns-clause-draws
 returns-clause-draws g c =
-    let r = challenger g in
-    let n = numbers c.args.transcript.now in
-    let s = g.C.ChallengerState.state c.args.transcript.now.challenger.now in
+    let old = c.args.transcript.now in
+    let r = run_of old in
+    let n = numbers old in
+    let s = state_of old in
+    let coefficients = g.EF.ExtensionField.coefficients in
     let all = taken_beside c.args.claims.now c.args.messages.now c.args.witnesses.now
     c.deref.result.now in
     let same2 = c.first_layer-bivariate.ensures.same.shape ∙ c.batch_phase.ensures.same.shape in
-    let second : AtRounds r n all s (numbers c.first_layer-bivariate.new.self)
-    (g.C.ChallengerState.state c.first_layer-bivariate.new.self.challenger.now) =
+    let second : AtRounds r n all s (coefficients c.in_ok-alpha.alpha)
+    (coefficients c.first_layer-bivariate.result) (numbers c.first_layer-bivariate.new.self)
+    (state_of c.first_layer-bivariate.new.self) =
     record {
       same = same2;
-      batch = c.in_ok-alpha.ensures.passes;
-      state =
-          c.first_layer-bivariate.ensures.state
-          ∙ ap (after_element r.base) (at_layer r n all s _ c.in_ok-alpha.ensures.state);
+      after = state_of c.batch_phase.new.self;
+      batch =
+          gave n _ _ (ap (outcome c.batch_phase.new.self coefficients) (sym c.in_ok-alpha.was)
+          ∙ c.batch_phase.ensures.played);
+      layer = c.first_layer-bivariate.ensures.played;
     } in
-    let third = at_query r n all s (numbers c.checking_rounds.new.transcript) _ _ _ second
-    c.checking_rounds.ensures.same.shape c.in_ok-betas.ensures.passes
-    c.in_ok-betas.ensures.state in
-    let coefficients = g.EF.ExtensionField.coefficients in
+    let third = at_query r n all s _ _ _ (numbers c.checking_rounds.new.transcript) _ _ _ second
+    c.checking_rounds.ensures.same.shape c.in_ok-betas.ensures.played in
     let drawn =
     drawn_of coefficients
     (record {
@@ -173,16 +179,16 @@ returns-clause-draws g c =
           c.in_ok-betas.betas;
       indices = c.in_ok-indices.indices;
     })
-    (g.C.ChallengerState.state c.query_phase.new.self.challenger.now) in
+    (state_of c.query_phase.new.self) in
     subst
     (λ v. draw_seeded r n
     (taken_beside c.args.claims.now c.args.messages.now c.args.witnesses.now v) s ≡ Ok drawn)
     c.deref.ensures.value
-    (all_drawn r n all s _ _ third drawn.alpha drawn.bivariate drawn.betas drawn.indices _ _ _
-    drawn.state c.in_ok-alpha.ensures.state second c.in_ok-indices.ensures.passes
-    c.in_ok-alpha.ensures.challenge c.first_layer-bivariate.ensures.challenge
-    c.in_ok-betas.ensures.challenges c.in_ok-indices.ensures.indices
-    c.in_ok-indices.ensures.state)
+    (all_drawn r n all s _ _ _ _ _ third drawn.indices drawn.state
+    (gave (numbers c.checking_rounds.new.transcript) _ _
+    (ap (outcome c.query_phase.new.self (λ v. v.items)) (sym c.in_ok-indices.was)
+    ∙ not_refused _ c.query_phase.result c.in_ok-indices.indices c.in_ok-indices.was
+    c.query_phase.ensures.played)))
 
 pub batch_phase-requires-clause-next : goal.batch_phase-requires-clause-next
 batch_phase-requires-clause-next g c = (_, c.requires.next)

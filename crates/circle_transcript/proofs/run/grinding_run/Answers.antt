@@ -2,8 +2,6 @@ use Rattle.std.specs.Prelude.{◌⊎◌, Ok, Err, All, unwrap_or}
 use Rattle.std.proofs.Common.{◌≡◌, ◌<◌, ◌≤◌, ◌^◌, ◌++◌, [], length, map, refl, sym, ap, ◌∙◌, subst}
 use Rattle.std.proofs.Common.{inl, inr}
 use Rattle.circle_commit.specs.declared.params.PowPhase.TheVariants.{Batch, CommitPhase, Query}
-use Rattle.circle_field.specs.Field.{of_nat}
-use Rattle.circle_challenger.specs.Moves.{RunMoves, run_moves, after_element}
 use Rattle.circle_transcript.specs.declared.failure.CircleTranscriptFailure.TheVariants.{Memory}
 use Rattle.circle_transcript.specs.Claims.{claims_of}
 use Rattle.circle_transcript.specs.Draw.{draw_seeded}
@@ -11,29 +9,21 @@ use Rattle.circle_transcript.specs.Runs.{taken_with, IsStuck}
 use Rattle.circle_transcript.specs.Shape.{rounds_steps}
 use Rattle.circle_transcript.specs.Numbers.{indices_steps}
 use Rattle.circle_transcript.specs.declared.transcript.Numbers.{Numbers}
-use Rattle.circle_transcript.specs.Transcript.{numbers}
+use Rattle.circle_transcript.specs.Transcript.{numbers, run_of, state_of}
 use Rattle.circle_transcript.proofs.Playing.{handed_on, unwrap_none}
+use Rattle.circle_transcript.proofs.Phases.{missed_in}
 use Rattle.circle_transcript.proofs.Runs.{indices_due}
-use Rattle.circle_transcript.proofs.Drawn.{AtRounds, at_layer, at_query, stuck_in, stuck_rounds}
+use Rattle.circle_transcript.proofs.Drawn.{AtRounds, at_query, stuck_in, stuck_rounds}
 use Rattle.circle_transcript.proofs.Drawn.{stuck_query, all_drawn, drawn_parts}
-use Rattle.circle_transcript.proofs.run.grinding_run.Given.{Over}
 use Rattle.circle_transcript.proofs.run.grinding_run.Goals as goal
-
--- what the challenger is to the run
-abbrev challenger : (g : Over) →
-    RunMoves g.row.C.Denot g.row.C-State.Denot g.row.F.Denot g.row.EF.Denot g.row.Com.Denot
-challenger g = run_moves g.C.ChallengerState.state g.C.CanObserve-1.after_observe
-    g.C.CanObserve-2.after_observe g.C.CanSample.sampled g.C.CanSample.after_sample
-    g.C.CanSampleBits.sampled_bits g.C.CanSampleBits.after_bits g.C.GrindingChallenger.found_witness
-    g.EF.ExtensionField.DEGREE g.EF.ExtensionField.coefficients (of_nat g.F.Operations.ops)
-    g.F.Operations.ops.zero
 
 pub returns-in_err-alpha-clause-failure : goal.returns-in_err-alpha-clause-failure
 returns-in_err-alpha-clause-failure g c =
-    let r = challenger g in
+    let old = c.args.transcript.now in
+    let r = run_of old in
     let zero = g.F.Operations.ops.zero in
-    let n = numbers c.args.transcript.now in
-    let s = g.C.ChallengerState.state c.args.transcript.now.challenger.now in
+    let n = numbers old in
+    let s = state_of old in
     let claims = claims_of c.args.claims.now in
     let messages = c.args.messages.now in
     handed_on c.from_residual.result c.in_err-alpha.field-0.0
@@ -41,26 +31,28 @@ returns-in_err-alpha-clause-failure g c =
     (inr
     (stuck_in
     r n claims messages s Batch c.in_err-alpha.field-0.0 _ c.in_err-alpha.ensures.failure refl
-    c.in_err-alpha.ensures.none))
+    (λ w. missed_in Batch _ _ _ (c.in_err-alpha.ensures.none w))))
 
 pub returns-in_err-betas-clause-failure : goal.returns-in_err-betas-clause-failure
 returns-in_err-betas-clause-failure g c =
-    let r = challenger g in
+    let old = c.args.transcript.now in
+    let r = run_of old in
     let zero = g.F.Operations.ops.zero in
-    let n = numbers c.args.transcript.now in
-    let s = g.C.ChallengerState.state c.args.transcript.now.challenger.now in
+    let n = numbers old in
+    let s = state_of old in
     let claims = claims_of c.args.claims.now in
     let messages = c.args.messages.now in
     let all = taken_with claims messages (unwrap_or c.in_ok-alpha.batch zero) [] zero in
     let same2 = c.first_layer-bivariate.ensures.same.shape ∙ c.batch_phase.ensures.same.shape in
-    let second : AtRounds r n all s (numbers c.first_layer-bivariate.new.self)
-    (g.C.ChallengerState.state c.first_layer-bivariate.new.self.challenger.now) =
+    let coefficients = g.EF.ExtensionField.coefficients in
+    let second : AtRounds r n all s (coefficients c.in_ok-alpha.alpha)
+    (coefficients c.first_layer-bivariate.result) (numbers c.first_layer-bivariate.new.self)
+    (state_of c.first_layer-bivariate.new.self) =
     record {
       same = same2;
-      batch = c.in_ok-alpha.ensures.passes;
-      state =
-          c.first_layer-bivariate.ensures.state
-          ∙ ap (after_element r.base) (at_layer r n all s _ c.in_ok-alpha.ensures.state);
+      after = state_of c.batch_phase.new.self;
+      batch = c.in_ok-alpha.ensures.played;
+      layer = c.first_layer-bivariate.ensures.played;
     } in
     handed_on c.from_residual-in_err-betas.result c.in_err-betas.field-0.0
     (λ e. (e ≡ Memory) ⊎ IsStuck r n claims messages s e) c.from_residual-in_err-betas.ensures.1
@@ -70,8 +62,8 @@ returns-in_err-betas-clause-failure g c =
           inr
           (stuck_in r n claims messages s CommitPhase c.in_err-betas.field-0.0 _ stuck.0
           (ap (λ v. v.commit_pow_bits) same2)
-          (stuck_rounds r n claims messages s (unwrap_or c.in_ok-alpha.batch zero) _ _ second
-          stuck.1))
+          (stuck_rounds r n claims messages s (unwrap_or c.in_ok-alpha.batch zero) _ _ _ _
+          second stuck.1))
     ])
 
 -- the steps that are due before the indices
@@ -96,27 +88,28 @@ returns-clause-due g c =
 
 pub returns-in_err-indices-clause-failure : goal.returns-in_err-indices-clause-failure
 returns-in_err-indices-clause-failure g c =
-    let r = challenger g in
+    let old = c.args.transcript.now in
+    let r = run_of old in
     let zero = g.F.Operations.ops.zero in
-    let n = numbers c.args.transcript.now in
-    let s = g.C.ChallengerState.state c.args.transcript.now.challenger.now in
+    let n = numbers old in
+    let s = state_of old in
     let claims = claims_of c.args.claims.now in
     let messages = c.args.messages.now in
     let all = taken_with claims messages (unwrap_or c.in_ok-alpha.batch zero)
     c.in_ok-betas.rounds.items zero in
     let same2 = c.first_layer-bivariate.ensures.same.shape ∙ c.batch_phase.ensures.same.shape in
-    let second : AtRounds r n all s (numbers c.first_layer-bivariate.new.self)
-    (g.C.ChallengerState.state c.first_layer-bivariate.new.self.challenger.now) =
+    let coefficients = g.EF.ExtensionField.coefficients in
+    let second : AtRounds r n all s (coefficients c.in_ok-alpha.alpha)
+    (coefficients c.first_layer-bivariate.result) (numbers c.first_layer-bivariate.new.self)
+    (state_of c.first_layer-bivariate.new.self) =
     record {
       same = same2;
-      batch = c.in_ok-alpha.ensures.passes;
-      state =
-          c.first_layer-bivariate.ensures.state
-          ∙ ap (after_element r.base) (at_layer r n all s _ c.in_ok-alpha.ensures.state);
+      after = state_of c.batch_phase.new.self;
+      batch = c.in_ok-alpha.ensures.played;
+      layer = c.first_layer-bivariate.ensures.played;
     } in
-    let third = at_query r n all s (numbers c.grinding_rounds.new.transcript) _ _ _ second
-    c.grinding_rounds.ensures.same.shape c.in_ok-betas.ensures.passes
-    c.in_ok-betas.ensures.state in
+    let third = at_query r n all s _ _ _ (numbers c.grinding_rounds.new.transcript) _ _ _ second
+    c.grinding_rounds.ensures.same.shape c.in_ok-betas.ensures.played in
     handed_on c.from_residual-in_err-indices.result c.in_err-indices.field-0.0
     (λ e. (e ≡ Memory) ⊎ IsStuck r n claims messages s e)
     c.from_residual-in_err-indices.ensures.1
@@ -128,44 +121,41 @@ returns-in_err-indices-clause-failure g c =
           r n claims messages s Query c.in_err-indices.field-0.0 _ none
           (ap (λ v. v.query_pow_bits) (c.grinding_rounds.ensures.same.shape ∙ same2))
           (stuck_query r n claims messages s (unwrap_or c.in_ok-alpha.batch zero)
-          c.in_ok-betas.rounds.items _ _ third c.in_ok-betas.ensures.count
-          (c.query_phase.ensures.none (c.in_err-indices.was ∙ ap Err none))))
+          c.in_ok-betas.rounds.items _ _ _ _ _ third c.in_ok-betas.ensures.count
+          (λ w. missed_in Query _ _ _
+          (c.query_phase.ensures.none (c.in_err-indices.was ∙ ap Err none) w))))
     ])
 
 pub returns-clause-draws : goal.returns-clause-draws
 returns-clause-draws g c =
-    let r = challenger g in
+    let old = c.args.transcript.now in
+    let r = run_of old in
     let zero = g.F.Operations.ops.zero in
-    let n = numbers c.args.transcript.now in
-    let s = g.C.ChallengerState.state c.args.transcript.now.challenger.now in
+    let n = numbers old in
+    let s = state_of old in
     let claims = claims_of c.args.claims.now in
     let messages = c.args.messages.now in
     let all = taken_with claims messages (unwrap_or c.in_ok-alpha.batch zero)
     c.in_ok-betas.rounds.items (unwrap_or c.in_ok-indices.query zero) in
     let same2 = c.first_layer-bivariate.ensures.same.shape ∙ c.batch_phase.ensures.same.shape in
-    let second : AtRounds r n all s (numbers c.first_layer-bivariate.new.self)
-    (g.C.ChallengerState.state c.first_layer-bivariate.new.self.challenger.now) =
+    let coefficients = g.EF.ExtensionField.coefficients in
+    let second : AtRounds r n all s (coefficients c.in_ok-alpha.alpha)
+    (coefficients c.first_layer-bivariate.result) (numbers c.first_layer-bivariate.new.self)
+    (state_of c.first_layer-bivariate.new.self) =
     record {
       same = same2;
-      batch = c.in_ok-alpha.ensures.passes;
-      state =
-          c.first_layer-bivariate.ensures.state
-          ∙ ap (after_element r.base) (at_layer r n all s _ c.in_ok-alpha.ensures.state);
+      after = state_of c.batch_phase.new.self;
+      batch = c.in_ok-alpha.ensures.played;
+      layer = c.first_layer-bivariate.ensures.played;
     } in
-    let third = at_query r n all s (numbers c.grinding_rounds.new.transcript) _ _ _ second
-    c.grinding_rounds.ensures.same.shape c.in_ok-betas.ensures.passes
-    c.in_ok-betas.ensures.state in
-    let coefficients = g.EF.ExtensionField.coefficients in
+    let third = at_query r n all s _ _ _ (numbers c.grinding_rounds.new.transcript) _ _ _ second
+    c.grinding_rounds.ensures.same.shape c.in_ok-betas.ensures.played in
     let drawn =
     drawn_parts (coefficients c.in_ok-alpha.alpha) (coefficients c.first_layer-bivariate.result)
     (map coefficients c.in_ok-betas.betas.items) c.in_ok-indices.indices.items
-    (g.C.ChallengerState.state c.query_phase.new.self.challenger.now) in
+    (state_of c.query_phase.new.self) in
     let given : draw_seeded r n all s ≡ Ok drawn =
-    all_drawn r n all s _ _ third drawn.alpha drawn.bivariate drawn.betas drawn.indices
-    _ _ _ drawn.state c.in_ok-alpha.ensures.state second c.in_ok-indices.ensures.passes
-    c.in_ok-alpha.ensures.challenge c.first_layer-bivariate.ensures.challenge
-    c.in_ok-betas.ensures.challenges c.in_ok-indices.ensures.indices
-    c.in_ok-indices.ensures.state in
+    all_drawn r n all s _ _ _ _ _ third drawn.indices drawn.state c.in_ok-indices.ensures.played in
     subst
     (λ w. draw_seeded r n
     (taken_with claims messages w c.in_ok-betas.rounds.items c.or_zero-query_witness.result) s

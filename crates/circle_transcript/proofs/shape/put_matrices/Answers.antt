@@ -1,4 +1,4 @@
-use Rattle.std.proofs.Common.{◌≡◌, ◌++◌, flat_map, length, ap, ◌∙◌}
+use Rattle.std.proofs.Common.{◌++◌, flat_map, length, ap, ◌∙◌}
 use Rattle.std.proofs.lemmas.List.{take_all}
 use Rattle.circle_challenger.specs.Step.{be64}
 use Rattle.circle_transcript.specs.ShapeOf.{matrices_of}

@@ -25,7 +25,7 @@ use types.Run.{enter}
 use types.ByLocal.{alloc_all, pass_all, free_all, look_at, get, get_in, get_tag, through, sets}
 use types.ByLocal.{sets_last, lands_as, env}
 use contract.BorrowLft.{◌⊑◌, ⊑_refl, ⊑_trans, meet_⊑_right}
-use contract.Lifetimes.{Lfts, Shares, AllOutlive}
+use contract.Lifetimes.{Lfts, Outlives, Shares, AllOutlive}
 use contract.Monad.{fact, fact_i}
 use contract.Running.{tables, tables_of}
 use sound.WpLaws.{WpFn-mono, fm_of}
@@ -38,7 +38,7 @@ use denote.Lend.{LentAgain, lends_again, comes_back}
 use denote.Param.{layout, bounded}
 use denote.Param.Laws.{Laws, param_laws, copied_laws}
 use denote.Ref.{MutBor, MutRef}
-use denote.Signature.{types_at, named_lft, plain}
+use denote.Signature.{Slot, types_at, named_lft, plain}
 use denote.Steps.{nothing, only}
 use denote.Triple.Call.{calls_at}
 use denote.Triple.Clauses.{Clauses, Ended, closing, lasts, Lasts}
@@ -57,19 +57,21 @@ use Rattle.std.specs.contracts.alloc.AllocError as Refused
 use Rattle.std.specs.contracts.alloc.Global as Global
 use Rattle.std.specs.contracts.result.Result as Result
 use Rattle.circle_field.specs.Field.{of_nat}
+use Rattle.circle_challenger.specs.Moves.{run_moves}
 use Rattle.circle_challenger.specs.Observing.{after_all}
 use Rattle.circle_challenger.specs.Step.{Step}
 use Rattle.circle_transcript.specs.Numbers.{numbers_of}
 use Rattle.circle_transcript.specs.Shape.{steps_of, text_of}
 use Rattle.circle_transcript.specs.ShapeOf.{shape_of}
 use Rattle.circle_transcript.specs.Transcript.{Borrows}
+use Rattle.circle_challenger.specs.declared.challenger.ChallengerState as States
+use Rattle.circle_transcript.specs.declared.moves.TranscriptMoves as Moves
 use Rattle.circle_transcript.specs.declared.shape.CirclePcsShape.{CirclePcsShape}
 use Rattle.circle_transcript.specs.declared.transcript.Numbers.{Numbers}
 use Rattle.circle_transcript.specs.contracts.shape.CirclePcsShape as Shape
 use Rattle.circle_transcript.specs.contracts.transcript.CircleTranscript as Transcript
 use Rattle.circle_transcript.specs.contracts.transcript.CircleTranscript.new as N
 use Rattle.circle_transcript.specs.contracts.transcript.CircleTranscript.new.Key.{name}
-use Rattle.circle_transcript.specs.contracts.transcript.CircleTranscript.of_seeded as O
 use Rattle.circle_transcript.specs.contracts.transcript.CircleTranscript.seeded as S
 use Rattle.circle_transcript.specs.contracts.transcript.Seeded as Seeded
 use Rattle.circle_transcript.proofs.ByHand.{Fits, one_value, by_result, Ends, begins, Goes-blank}
@@ -87,7 +89,10 @@ record Rows : Type 2 where
   EF : RattleType
   C : RattleType
   S : RattleType
+  Com : RattleType
   State : RattleType
+  moves : Moves.Ghosts C.Denot F.Denot EF.Denot Com.Denot State.Denot
+  states : States.Ghosts C.Denot State.Denot
 
 -- what the contracts say of the shape and of the challenger
 record Says (R : Rows) : Type 0 where
@@ -122,8 +127,8 @@ callee (lend_static a b c) = method none 0 (tnil, dnil)
 module _ (R : Rows) (ds : Dicts) where
   abbrev args : Args
   args =
-      bounded (a_type ∷ a_type ∷ a_type ∷ a_type ∷ a_type ∷ [])
-      (R.F, (R.EF, (R.C, (R.S, (R.State, tt))))) ds
+      bounded (a_type ∷ a_type ∷ a_type ∷ a_type ∷ a_type ∷ a_type ∷ [])
+      (R.F, (R.EF, (R.C, (R.S, (R.Com, (R.State, tt)))))) ds
 
   abbrev function : Fn
   function = inst_fn args code.function
@@ -141,47 +146,75 @@ module _ (R : Rows) (ds : Dicts) where
 -- ---- the three contracts
 module _ (R : Rows) where
   abbrev C-row : RattleType
-  C-row = N.C-row R.F R.EF R.C R.S R.State
+  C-row = N.C-row R.F R.EF R.C R.S R.Com R.State
+
+  abbrev Made : Lfts 7 → RattleType
+  Made κs = Transcript.the_row (named_lft 7 0 tt κs) C-row (N.F-row R.F R.EF R.C R.S R.Com R.State)
+      (N.EF-row R.F R.EF R.C R.S R.Com R.State) (N.Com-row R.F R.EF R.C R.S R.Com R.State)
+      (N.S-row R.F R.EF R.C R.S R.Com R.State) (N.C-State-row R.F R.EF R.C R.S R.Com R.State)
+      R.moves R.states
+
+  -- the challenger's type outlives the reference
+  abbrev outlives : List (Outlives 7)
+  outlives = record { long = 3; long_ok = tt; short = named 0; short_ok = tt } ∷ []
+
+  abbrev lends : Slot 7
+  lends = RefMutOf (0 ∷ []) tt (plain (λ _. C-row)) (λ _. tt)
 
   abbrev ended : Ended
-  ended = record { signature = N.signature R.F R.EF R.C R.S R.State; kept = (yes, (no, (yes, tt))) }
+  ended = record {
+    signature = record {
+      lifetimes = 7;
+      outlives = outlives;
+      params = plain (λ _. Global.the_row) ∷ lends ∷ plain (λ _. Shape.the_row) ∷ [];
+      result = plain (λ κs. Result.the_row (Made κs) Refused.the_row);
+    };
+    kept = (yes, (no, (yes, tt)));
+  }
 
   abbrev seeding : Ended
-  seeding =
-      record { signature = S.signature R.F R.EF R.C R.S R.State; kept = (yes, (yes, (yes, tt))) }
+  seeding = record {
+    signature = S.signature R.F R.EF R.C R.S R.Com R.State;
+    kept = (yes, (yes, (yes, tt)));
+  }
 
   abbrev making : Ended
-  making = record { signature = O.signature R.F R.EF R.C R.S R.State; kept = (no, (yes, tt)) }
+  making = record {
+    signature = record {
+      lifetimes = 7;
+      outlives = outlives;
+      params = lends ∷ plain (λ _. Seeded.the_row C-row) ∷ [];
+      result = plain Made;
+    };
+    kept = (no, (yes, tt));
+  }
 
   abbrev stayed : Stays ended.signature.params ended.kept
   stayed = (
     stay_dropped _ yes,
     (
-      stay_dropped (RefMutOf (0 ∷ []) tt (plain (λ _. C-row)) (λ _. tt)) no,
+      stay_dropped lends no,
       (stay_dropped _ yes, tt),
     ),
   )
-
-  abbrev Made : Lfts 6 → RattleType
-  Made κs = Transcript.the_row (named_lft 6 0 tt κs) C-row (N.F-row R.F R.EF R.C R.S R.State)
-      (N.EF-row R.F R.EF R.C R.S R.State) (N.S-row R.F R.EF R.C R.S R.State)
 
 module _ (R : Rows) (w : Says R) {M : Type 1} {𝓤 : Ura M} (𝓛 : Logic 𝓤) where
   open 𝓛 use {H, A}
 
   -- the types outlive their lifetimes, and what else is required
-  abbrev Asked : Lft → Lft → Lft → Lft → Lft → SProp 𝓤 → SProp 𝓤
-  Asked κF κE κC κS κT also =
+  abbrev Asked : Lft → Lft → Lft → Lft → Lft → Lft → SProp 𝓤 → SProp 𝓤
+  Asked κF κE κC κS κM κT also =
       sep 𝓤 (fact 𝓤 (κF ⊑ R.F.lives))
       (sep 𝓤 (fact 𝓤 (κE ⊑ R.EF.lives))
       (sep 𝓤 (fact 𝓤 (κC ⊑ R.C.lives))
-      (sep 𝓤 (fact 𝓤 (κS ⊑ R.S.lives)) (sep 𝓤 (fact 𝓤 (κT ⊑ R.State.lives)) also))))
+      (sep 𝓤 (fact 𝓤 (κS ⊑ R.S.lives))
+      (sep 𝓤 (fact 𝓤 (κM ⊑ R.Com.lives)) (sep 𝓤 (fact 𝓤 (κT ⊑ R.State.lives)) also)))))
 
   abbrev held : Clauses 𝓤 (ended R)
   held κs a = record {
     ghost = Unit {0};
     requires = λ _. Asked κs.1.0 κs.1.1.0 κs.1.1.1.0 κs.1.1.1.1.0 κs.1.1.1.1.1.0
-        (fact 𝓤 (few a.1.1.0));
+        κs.1.1.1.1.1.1.0 (fact 𝓤 (few a.1.1.0));
     ensures =
         λ _ r _. sep 𝓤
         (sem 𝓛 (RestsIfErr (C-row R) a.1.0 (λ t. t.challenger.ghost_name) r (λ n. n ≡ a.1.0.now)))
@@ -195,7 +228,7 @@ module _ (R : Rows) (w : Says R) {M : Type 1} {𝓤 : Ura M} (𝓛 : Logic 𝓤)
   seeds κs a = record {
     ghost = Unit {0};
     requires = λ _. Asked κs.1.1.0 κs.1.1.1.0 κs.1.1.1.1.0 κs.1.1.1.1.1.0 κs.1.1.1.1.1.1.0
-        (fact 𝓤 (few a.1.1.0));
+        κs.1.1.1.1.1.1.1.0 (fact 𝓤 (few a.1.1.0));
     ensures =
         λ _ r e. sep 𝓤 (fact 𝓤 (OnErr r (e.1.0.now ≡ a.1.0.now)))
         (sep 𝓤 (fact 𝓤 (IfOk r (λ s. s.due.steps ≡ w.steps a.1.1.0)))
@@ -208,7 +241,7 @@ module _ (R : Rows) (w : Says R) {M : Type 1} {𝓤 : Ura M} (𝓛 : Logic 𝓤)
   makes κs a = record {
     ghost = Unit {0};
     requires = λ _. Asked κs.1.0 κs.1.1.0 κs.1.1.1.0 κs.1.1.1.1.0 κs.1.1.1.1.1.0
-        (fact 𝓤 (a.0.now ≡ a.1.0.due.challenger));
+        κs.1.1.1.1.1.1.0 (fact 𝓤 (a.0.now ≡ a.1.0.due.challenger));
     ensures =
         λ _ t _. sep 𝓤 (fact 𝓤 (Borrows t a.0))
         (sep 𝓤 (fact 𝓤 (t.challenger.now ≡ a.0.now))
@@ -229,25 +262,32 @@ module _ (R : Rows) (w : Says R) {M : Type 1} {𝓤 : Ura M} (𝓛 : Logic 𝓤)
       (MutRef (named 0) κ (C-row R)).own_val (record { ref_ptr = p; ghost_name = δ; now = c })
       (vptr p.0 p.1 ∷ [])
 
-  asked : (κF κE κC κS κT : Lft) (also : SProp 𝓤) → κF ⊑ R.F.lives → κE ⊑ R.EF.lives →
-      κC ⊑ R.C.lives → κS ⊑ R.S.lives → κT ⊑ R.State.lives → ent 𝓤 (emp 𝓤) also →
-      ent 𝓤 (emp 𝓤) (Asked κF κE κC κS κT also)
-  asked κF κE κC κS κT also f e c s t x =
+  asked : (κF κE κC κS κM κT : Lft) (also : SProp 𝓤) → κF ⊑ R.F.lives → κE ⊑ R.EF.lives →
+      κC ⊑ R.C.lives → κS ⊑ R.S.lives → κM ⊑ R.Com.lives → κT ⊑ R.State.lives →
+      ent 𝓤 (emp 𝓤) also → ent 𝓤 (emp 𝓤) (Asked κF κE κC κS κM κT also)
+  asked κF κE κC κS κM κT also f e c s m t x =
       qed 𝓛 [] ∵ use0 𝓛 (raw also) x $ use0 𝓛 (raw (fact 𝓤 (κT ⊑ R.State.lives)))
-      (fact_i 𝓤 _ (emp 𝓤) t) $ use0 𝓛 (raw (fact 𝓤 (κS ⊑ R.S.lives))) (fact_i 𝓤 _ (emp 𝓤) s) $
+      (fact_i 𝓤 _ (emp 𝓤) t) $ use0 𝓛 (raw (fact 𝓤 (κM ⊑ R.Com.lives)))
+      (fact_i 𝓤 _ (emp 𝓤) m) $ use0 𝓛 (raw (fact 𝓤 (κS ⊑ R.S.lives))) (fact_i 𝓤 _ (emp 𝓤) s) $
       use0 𝓛 (raw (fact 𝓤 (κC ⊑ R.C.lives))) (fact_i 𝓤 _ (emp 𝓤) c) $ use0 𝓛
       (raw (fact 𝓤 (κE ⊑ R.EF.lives))) (fact_i 𝓤 _ (emp 𝓤) e) $
       use0 𝓛 (raw (fact 𝓤 (κF ⊑ R.F.lives))) (fact_i 𝓤 _ (emp 𝓤) f) $ done !
 
-  module _ (κs : Lfts 6) (qs : Shares 6) (bounds : AllOutlive 6 (making R).signature.outlives κs)
+  module _ (κs : Lfts 7) (qs : Shares 7) (bounds : AllOutlive 7 (making R).signature.outlives κs)
       (iF : κs.1.0 ⊑ R.F.lives) (iE : κs.1.1.0 ⊑ R.EF.lives) (iC : κs.1.1.1.0 ⊑ R.C.lives)
-      (iS : κs.1.1.1.1.0 ⊑ R.S.lives) (iT : κs.1.1.1.1.1.0 ⊑ R.State.lives)
+      (iS : κs.1.1.1.1.0 ⊑ R.S.lives) (iM : κs.1.1.1.1.1.0 ⊑ R.Com.lives)
+      (iT : κs.1.1.1.1.1.1.0 ⊑ R.State.lives)
       (p : ℕ × ℕ) (γ : GName) (c : R.C.Denot) (g : (Global.the_row).Denot) (d : CirclePcsShape)
       (v₀ v₂ : Val) (is_few : few d) where
     abbrev Tokens : Item 𝓤
     Tokens = ‵ (flft κs.0 qs.0) ⊛ ‵ (flft κs.1.0 qs.1.0) ⊛ ‵ (flft κs.1.1.0 qs.1.1.0) ⊛ ‵
         (flft κs.1.1.1.0 qs.1.1.1.0) ⊛ ‵ (flft κs.1.1.1.1.0 qs.1.1.1.1.0) ⊛ ‵
-        (flft κs.1.1.1.1.1.0 qs.1.1.1.1.1.0) ⊛ ‵ ftrue
+        (flft κs.1.1.1.1.1.0 qs.1.1.1.1.1.0) ⊛ ‵
+        (flft κs.1.1.1.1.1.1.0 qs.1.1.1.1.1.1.0) ⊛ ‵ ftrue
+
+    -- the tokens of Com and of State, which go together
+    abbrev Last : Item 𝓤
+    Last = ‵ (flft κs.1.1.1.1.1.0 qs.1.1.1.1.1.0) ⊛ ‵ (flft κs.1.1.1.1.1.1.0 qs.1.1.1.1.1.1.0)
 
     abbrev self : MutBor R.C.Denot
     self = record { ref_ptr = p; ghost_name = γ; now = c }
@@ -274,7 +314,7 @@ module _ (R : Rows) (w : Says R) {M : Type 1} {𝓤 : Ura M} (𝓛 : Logic 𝓤)
 
       abbrev Brings : List (Item 𝓤)
       Brings = ‵ (flft κ q) ∷ ‵ (lent κ p δ c) ∷ ‵ (flft κs.1.0 qs.1.0) ∷ ‵ (flft κs.1.1.0 qs.1.1.0)
-          ∷ ‵ (flft κs.1.1.1.1.0 qs.1.1.1.1.0) ∷ ‵ (flft κs.1.1.1.1.1.0 qs.1.1.1.1.1.0)
+          ∷ ‵ (flft κs.1.1.1.1.0 qs.1.1.1.1.0) ∷ Last
           ∷ ‵ ((Global.the_row).own_val g (v₀ ∷ [])) ∷ ‵ ((Shape.the_row).own_val d (v₂ ∷ [])) ∷ []
 
       seeds_goes : κ ⊑ R.C.lives → ent 𝓤 (⋆ 𝓛 Brings) (Seeding.pre at_seeds)
@@ -284,11 +324,13 @@ module _ (R : Rows) (w : Says R) {M : Type 1} {𝓤 : Ura M} (𝓛 : Logic 𝓤)
           use1 𝓛
           (‵ (flft κ (Share.left (Share.right q))) ⊛ ‵ (flft κ (Share.right (Share.right q))))
           (𝓛.lfts.lft_split κ (Share.right q)) $ split ! $
-          use0 𝓛 (raw (Asked κs.1.0 κs.1.1.0 κ κs.1.1.1.1.0 κs.1.1.1.1.1.0 (fact 𝓤 (few d))))
-          (asked κs.1.0 κs.1.1.0 κ κs.1.1.1.1.0 κs.1.1.1.1.1.0 (fact 𝓤 (few d)) iF iE i iS iT
-          (fact_i 𝓤 _ (emp 𝓤) is_few)) $ nothing ! $ nothing ! $
+          use0 𝓛 (raw (Asked κs.1.0 κs.1.1.0 κ κs.1.1.1.1.0 κs.1.1.1.1.1.0 κs.1.1.1.1.1.1.0
+          (fact 𝓤 (few d))))
+          (asked κs.1.0 κs.1.1.0 κ κs.1.1.1.1.0 κs.1.1.1.1.1.0 κs.1.1.1.1.1.1.0 (fact 𝓤 (few d))
+          iF iE i iS iM iT (fact_i 𝓤 _ (emp 𝓤) is_few)) $ nothing ! $ nothing ! $
           move ! (11 ∷ 6 ∷ 12 ∷ 0 ∷ []) $ group ! 4 $ move ! (5 ∷ 3 ∷ 6 ∷ 7 ∷ 4 ∷ 8 ∷ 9 ∷ 1 ∷ []) $
-          group ! 8 $ join ! $ done !
+          move ! (6 ∷ []) $ split ! $ move ! (2 ∷ 3 ∷ 4 ∷ 5 ∷ 6 ∷ 7 ∷ 0 ∷ 1 ∷ 8 ∷ []) $
+          group ! 9 $ join ! $ done !
 
       abbrev Out : RattleType
       Out = Result.the_row (Seeded.the_row (C-row R)) Refused.the_row
@@ -302,8 +344,8 @@ module _ (R : Rows) (w : Says R) {M : Type 1} {𝓤 : Ura M} (𝓛 : Logic 𝓤)
       Gave v a =
           given (Told a.0 a.1)
           (‵ (flft κ q) ⊛ ‵ (fres δ ((C-row R).coded.code a.1)) ⊛ ‵ (flft κs.1.0 qs.1.0) ⊛ ‵
-          (flft κs.1.1.0 qs.1.1.0) ⊛ ‵ (flft κs.1.1.1.1.0 qs.1.1.1.1.0) ⊛ ‵
-          (flft κs.1.1.1.1.1.0 qs.1.1.1.1.1.0) ⊛ ‵ (Out.own_val a.0 (v ∷ [])))
+          (flft κs.1.1.0 qs.1.1.0) ⊛ ‵ (flft κs.1.1.1.1.0 qs.1.1.1.1.0) ⊛ Last
+          ⊛ ‵ (Out.own_val a.0 (v ∷ [])))
 
       seeds_gives : (v : Val) →
           ent 𝓤 (Seeding.post at_seeds v) (H.⇛ (ex 𝓤 (λ a. mean 𝓛 (Gave v a))))
@@ -316,7 +358,8 @@ module _ (R : Rows) (w : Says R) {M : Type 1} {𝓤 : Ura M} (𝓛 : Logic 𝓤)
           ((‵ (flft κ (Share.left q)) ⊛ ‵ (flft κ (Share.left (Share.right q))) ⊛ ‵
           (flft κs.1.0 qs.1.0) ⊛ ‵ (flft κs.1.1.0 qs.1.1.0) ⊛ ‵
           (flft κ (Share.right (Share.right q))) ⊛ ‵ (flft κs.1.1.1.1.0 qs.1.1.1.1.0) ⊛ ‵
-          (flft κs.1.1.1.1.1.0 qs.1.1.1.1.1.0) ⊛ ‵ ftrue) ⊛ ‵ (Out.own_val r (v ∷ [])))
+          (flft κs.1.1.1.1.1.0 qs.1.1.1.1.1.0) ⊛ ‵
+          (flft κs.1.1.1.1.1.1.0 qs.1.1.1.1.1.1.0) ⊛ ‵ ftrue) ⊛ ‵ (Out.own_val r (v ∷ [])))
           ⊛ some
           (λ (ws : Lasts (seeding R) at_seeds.0.0 at_seeds.0.3). ‵
           (lasts (seeding R) at_seeds.0.0 at_seeds.0.3 ws)
@@ -332,8 +375,9 @@ module _ (R : Rows) (w : Says R) {M : Type 1} {𝓤 : Ura M} (𝓛 : Logic 𝓤)
           (λ k₂. drop ! $ split ! $ learn ! (λ k₃. drop ! $ split ! $ learn ! (λ k₄. drop ! $
           learn ! (λ k₅. drop ! $
           move ! (3 ∷ []) $ split ! $ split3 ! $ move ! (2 ∷ []) $ split3 ! $ move ! (2 ∷ []) $
-          split3 ! $ move ! (2 ∷ []) $ split ! $
-          -- [the tokens of State, none, C, S, F, EF, and the two others of κ; the result; the last
+          split3 ! $ move ! (2 ∷ []) $ split3 ! $ join ! $
+          -- [the tokens of Com and State, none, C, S, F, EF, and the two others of κ; the result;
+          -- the last
           -- value]
           move ! (7 ∷ 2 ∷ []) $ use2 𝓛 (‵ (flft κ (Share.right q))) (𝓛.lfts.lft_join
           κ (Share.right q)) $ move ! (6 ∷ 0 ∷ []) $ use2 𝓛 (‵ (flft κ q)) (𝓛.lfts.lft_join κ q)
@@ -364,9 +408,10 @@ module _ (R : Rows) (w : Says R) {M : Type 1} {𝓤 : Ura M} (𝓛 : Logic 𝓤)
       makes_goes : n ≡ x.due.challenger → ent 𝓤 (⋆ 𝓛 Given) (Making.pre at_makes)
       makes_goes paused =
           qed 𝓛 Given ∵ use0 𝓛
-          (raw (Asked κs.1.0 κs.1.1.0 κs.1.1.1.0 κs.1.1.1.1.0 κs.1.1.1.1.1.0 same))
-          (asked κs.1.0 κs.1.1.0 κs.1.1.1.0 κs.1.1.1.1.0 κs.1.1.1.1.1.0 same iF iE iC iS iT
-          (fact_i 𝓤 _ (emp 𝓤) paused)) $
+          (raw (Asked κs.1.0 κs.1.1.0 κs.1.1.1.0 κs.1.1.1.1.0 κs.1.1.1.1.1.0 κs.1.1.1.1.1.1.0
+          same))
+          (asked κs.1.0 κs.1.1.0 κs.1.1.1.0 κs.1.1.1.1.0 κs.1.1.1.1.1.0 κs.1.1.1.1.1.1.0 same
+          iF iE iC iS iM iT (fact_i 𝓤 _ (emp 𝓤) paused)) $
           nothing ! $ move ! (3 ∷ 4 ∷ 0 ∷ []) $ group ! 3 $ move ! (2 ∷ 0 ∷ []) $ join ! $ done !
 
       abbrev Formed : Val → (Made R κs).Denot → Item 𝓤
@@ -449,6 +494,7 @@ module _ (R : Rows) (w : Says R) {M : Type 1} {𝓤 : Ura M} (𝓛 : Logic 𝓤)
 
     -- ---- the walk
     module _ (ds : Dicts) (LF : Laws R.F) (LE : Laws R.EF) (LC : Laws R.C) (LS : Laws R.S)
+        (LM : Laws R.Com) (LT : Laws R.State)
         (𝓣 : Tables 𝓤 H) (seeds-met : Triple 𝓤 (𝓣.C (seeded_key R ds)) Seeding)
         (makes-met : Triple 𝓤 (𝓣.C (of_seeded_key R ds)) Making)
         (ok₀ : Fits (layout Global.the_row) v₀) (ok₂ : Fits (layout Shape.the_row) v₂) where
@@ -458,10 +504,12 @@ module _ (R : Rows) (w : Says R) {M : Type 1} {𝓤 : Ura M} (𝓛 : Logic 𝓤)
 
       made_laws : Laws (Made R κs)
       made_laws =
-          TranscriptLaws.the_row_laws (named_lft 6 0 tt κs) (C-row R)
-          (N.F-row R.F R.EF R.C R.S R.State) (N.EF-row R.F R.EF R.C R.S R.State)
-          (N.S-row R.F R.EF R.C R.S R.State) (param_laws 2 R.C LC) (copied_laws 0 R.F LF)
-          (copied_laws 1 R.EF LE) (param_laws 3 R.S LS)
+          TranscriptLaws.the_row_laws (named_lft 7 0 tt κs) (C-row R)
+          (N.F-row R.F R.EF R.C R.S R.Com R.State) (N.EF-row R.F R.EF R.C R.S R.Com R.State)
+          (N.Com-row R.F R.EF R.C R.S R.Com R.State) (N.S-row R.F R.EF R.C R.S R.Com R.State)
+          (N.C-State-row R.F R.EF R.C R.S R.Com R.State) R.moves R.states
+          (param_laws 2 R.C LC) (copied_laws 0 R.F LF) (copied_laws 1 R.EF LE)
+          (param_laws 4 R.Com LM) (param_laws 3 R.S LS) (param_laws 5 R.State LT)
 
       walk : ent 𝓤 (⋆ 𝓛 Had) (WpFn 𝓤 H 𝓣.C 𝓣.Λ (function R ds) (v₀ ∷ vptr p.0 p.1 ∷ v₂ ∷ []) Post)
       walk =
@@ -475,8 +523,9 @@ module _ (R : Rows) (w : Says R) {M : Type 1} {𝓤 : Ura M} (𝓛 : Logic 𝓤)
           (Wp 𝓤 H 𝓣.C 𝓣.Λ En (after 4 (function R ds).body) (at_return 𝓤 H En Post))
           (at_return 𝓤 H En Post)) in
           split3 ! $ move ! (2 ∷ []) $ split3 ! $ move ! (2 ∷ []) $ split3 ! $ move ! (2 ∷ []) $
-          drop ! $
-          -- [the tokens of S, State, EF, C, the reference, F; the allocator; the reference; the
+          split ! $ move ! (1 ∷ []) $ drop ! $ move ! (2 ∷ 0 ∷ []) $ join ! $ move ! (1 ∷ []) $
+          -- [the tokens of S, Com and State, EF, C, the reference, F; the allocator; the reference;
+          -- the
           -- shape]
           sets ! (addr ! (through ! refl (stop !))) refl (tt, tt) $ sets ! (of_opd ! (get ! refl))
           refl ok₂ $
@@ -523,7 +572,8 @@ module _ (R : Rows) (w : Says R) {M : Type 1} {𝓤 : Ura M} (𝓛 : Logic 𝓤)
           refl fits $
           sets ! (addr ! (through ! refl (stop !))) refl (tt, tt) $ sets ! (of_opd ! (get ! refl))
           refl fits $
-          nothing ! $ move ! (3 ∷ 7 ∷ 8 ∷ 4 ∷ 5 ∷ 6 ∷ 0 ∷ []) $ group ! 7 $ move ! (0 ∷ 2 ∷ 1 ∷ [])
+          nothing ! $ move ! (3 ∷ 7 ∷ 8 ∷ 4 ∷ 5 ∷ 6 ∷ 0 ∷ []) $ move ! (5 ∷ []) $ split ! $
+          move ! (2 ∷ 3 ∷ 4 ∷ 5 ∷ 6 ∷ 0 ∷ 1 ∷ 7 ∷ []) $ group ! 8 $ move ! (0 ∷ 2 ∷ 1 ∷ [])
           $ group ! 3 $ use1 𝓛 (raw (Making.pre (at_makes r.1 x u)))
           (makes_goes r.1 x u (subst (λ z. IfOk z (λ s. r.1 ≡ s.due.challenger)) is told.4)) $
           calls_at ! (fm_of 𝓤 H 𝓛.laws 𝓣) Making makes-met (at_makes r.1 x u)
@@ -567,11 +617,13 @@ module _ (R : Rows) (w : Says R) {M : Type 1} {𝓤 : Ura M} (𝓛 : Logic 𝓤)
           (rests_err x) $
           -- [what the challenger ends as; two parts of the reference; the result; the tokens of the
           -- reference, C, S, State, F, EF]
-          nothing ! $ move ! (5 ∷ 9 ∷ 10 ∷ 6 ∷ 7 ∷ 8 ∷ 0 ∷ []) $ group ! 7 $
+          nothing ! $ move ! (5 ∷ 9 ∷ 10 ∷ 6 ∷ 7 ∷ 8 ∷ 0 ∷ []) $ move ! (5 ∷ []) $ split ! $
+          move ! (2 ∷ 3 ∷ 4 ∷ 5 ∷ 6 ∷ 0 ∷ 1 ∷ 7 ∷ []) $ group ! 8 $
           returns ! (look_at ! 0 refl) $ free_all ! refl $ keep ! (0 ∷ 4 ∷ 1 ∷ []) $ by !
           (exits (Err x) (live 1 (vcons u vnil)) tt tt tt tt))))))))
 
   module _ (ds : Dicts) (LF : Laws R.F) (LE : Laws R.EF) (LC : Laws R.C) (LS : Laws R.S)
+      (LM : Laws R.Com) (LT : Laws R.State)
       (𝓣 : Tables 𝓤 H) (seeds-met : Triple 𝓤 (𝓣.C (seeded_key R ds)) Seeding)
       (makes-met : Triple 𝓤 (𝓣.C (of_seeded_key R ds)) Making) where
     abbrev runs-it : List Val → (Val → SProp 𝓤) → SProp 𝓤
@@ -580,10 +632,10 @@ module _ (R : Rows) (w : Says R) {M : Type 1} {𝓤 : Ura M} (𝓛 : Logic 𝓤)
     meets : Meets 𝓛 (ended R).signature runs-it (closing 𝓛 (ended R) held)
     meets =
         walk_Meets 𝓛 (ended R) (stayed R) (
-          Goes-blank 𝓛 6 (plain (λ _. Global.the_row)) yes (λ κs x f. tt),
+          Goes-blank 𝓛 7 (plain (λ _. Global.the_row)) yes (λ κs x f. tt),
           (
-            Goes-spent_ref 𝓛 6 (0 ∷ []) tt (plain (λ _. C-row R)),
-            (Goes-blank 𝓛 6 (plain (λ _. Shape.the_row)) yes (λ κs x f. tt), tt),
+            Goes-spent_ref 𝓛 7 (0 ∷ []) tt (plain (λ _. C-row R)),
+            (Goes-blank 𝓛 7 (plain (λ _. Shape.the_row)) yes (λ κs x f. tt), tt),
           ),
         )
         held runs-it (WpFn-mono 𝓤 H 𝓛.laws 𝓣 (function R ds)) (λ z. let κs = z.0.0 in let qs =
@@ -591,16 +643,19 @@ module _ (R : Rows) (w : Says R) {M : Type 1} {𝓤 : Ura M} (𝓛 : Logic 𝓤)
         qed 𝓛
         (((‵ (flft κs.0 qs.0) ⊛ ‵ (flft κs.1.0 qs.1.0) ⊛ ‵ (flft κs.1.1.0 qs.1.1.0) ⊛ ‵
         (flft κs.1.1.1.0 qs.1.1.1.0) ⊛ ‵ (flft κs.1.1.1.1.0 qs.1.1.1.1.0) ⊛ ‵
-        (flft κs.1.1.1.1.1.0 qs.1.1.1.1.1.0) ⊛ ‵ ftrue) ⊛ ‵
+        (flft κs.1.1.1.1.1.0 qs.1.1.1.1.1.0) ⊛ ‵
+        (flft κs.1.1.1.1.1.1.0 qs.1.1.1.1.1.1.0) ⊛ ‵ ftrue) ⊛ ‵
         (owns (types_at (ended R).signature.params κs) a vss))
         ∷ (given (κs.1.0 ⊑ R.F.lives) (‵ ftrue) ⊛ given (κs.1.1.0 ⊑ R.EF.lives) (‵ ftrue) ⊛ given
         (κs.1.1.1.0 ⊑ R.C.lives) (‵ ftrue) ⊛ given (κs.1.1.1.1.0 ⊑ R.S.lives) (‵ ftrue) ⊛ given
-        (κs.1.1.1.1.1.0 ⊑ R.State.lives) (‵ ftrue) ⊛ given (few a.1.1.0) (‵ ftrue)) ∷ []) ∵
+        (κs.1.1.1.1.1.0 ⊑ R.Com.lives) (‵ ftrue) ⊛ given
+        (κs.1.1.1.1.1.1.0 ⊑ R.State.lives) (‵ ftrue) ⊛ given (few a.1.1.0) (‵ ftrue)) ∷ []) ∵
         move ! (1 ∷ []) $ split ! $ learn !
         (λ iF. drop ! $ split ! $ learn !
         (λ iE. drop ! $ split ! $ learn !
         (λ iC. drop ! $ split ! $ learn !
-        (λ iS. drop ! $ split ! $ learn ! (λ iT. drop ! $ learn ! (λ is_few. drop ! $
+        (λ iS. drop ! $ split ! $ learn ! (λ iM. drop ! $ split ! $ learn !
+        (λ iT. drop ! $ learn ! (λ is_few. drop ! $
         split ! $ move ! (1 ∷ []) $ fsplit ! $ one_value ! Global.the_row GlobalLaws.the_row_laws
         a.0 vss.0 (λ v₀ e₀ ok₀. move ! (1 ∷ []) $ fsplit ! $ fsplit ! $ feq_l ! (λ e₁.
         feq_i ! (List Val) (vptr p.0 p.1 ∷ []) (vptr p.0 p.1 ∷ []) refl $ fjoin
@@ -612,27 +667,46 @@ module _ (R : Rows) (w : Says R) {M : Type 1} {𝓤 : Ura M} (𝓛 : Logic 𝓤)
         (Walked.post ((κs, qs, z.0.2, a, (us.0, (us.1, (us.2, tt)))), tt))))
         (λ i. (e₀ i, e₁ i, e₂ i)) refl $
         keep ! (4 ∷ 3 ∷ 2 ∷ 0 ∷ []) $ by !
-        (walk κs qs z.0.2 iF iE iC iS iT p a.1.0.ghost_name a.1.0.now a.0 a.1.1.0 v₀ v₂ is_few
-        ds LF LE LC LS 𝓣 seeds-met makes-met ok₀ ok₂)))))))))))
+        (walk κs qs z.0.2 iF iE iC iS iM iT p a.1.0.ghost_name a.1.0.now a.0 a.1.1.0 v₀ v₂ is_few
+        ds LF LE LC LS LM LT 𝓣 seeds-met makes-met ok₀ ok₂))))))))))))
 
 pub new_spec : {M : Type 1} → statement M
 unfolding tables_of
-new_spec 𝓤 𝓛 𝓜 𝓡 wired F EF C S State LF LE LC LS LT PF PE F-Field F-Field-dict F-Operations
+new_spec 𝓤 𝓛 𝓜 𝓡 wired F EF C S Com State LF LE LC LS LM LT PF PE F-Field F-Field-dict F-Operations
     F-Operations-dict F-Clone F-Clone-dict F-Eq F-Eq-dict F-PartialEq F-PartialEq-dict F-Hash
     F-Hash-dict F-Debug F-Debug-dict F-Add F-Add-dict F-Sub F-Sub-dict F-Mul F-Mul-dict F-Neg
     F-Neg-dict EF-ExtensionField EF-ExtensionField-dict EF-Field EF-Field-dict EF-Operations
     EF-Operations-dict EF-Clone EF-Clone-dict EF-Eq EF-Eq-dict EF-PartialEq EF-PartialEq-dict
     EF-Hash EF-Hash-dict EF-Debug EF-Debug-dict EF-Add EF-Add-dict EF-Sub EF-Sub-dict EF-Mul
     EF-Mul-dict EF-Neg EF-Neg-dict C-CanSample C-CanSample-dict C-ChallengerState
-    C-ChallengerState-dict C-GrindingChallenger C-GrindingChallenger-dict C-CanObserve
-    C-CanObserve-dict C-CanSampleBits C-CanSampleBits-dict m0 m1 m2 m3 m4 m5 m6 m7 m8 m9 m10 m11 m12
-    m13 m14 m15 m16 m17 m18 m19 m20 m21 m22 m23 m24 m25 m26 m27 =
-    let R : Rows = record { F = F; EF = EF; C = C; S = S; State = State } in
+    C-ChallengerState-dict C-GrindingChallenger C-GrindingChallenger-dict C-CanObserve-1
+    C-CanObserve-1-dict C-CanSampleBits C-CanSampleBits-dict C-CanObserve-2 C-CanObserve-2-dict m0
+    m1 m2 m3 m4 m5 m6 m7 m8 m9 m10 m11 m12
+    m13 m14 m15 m16 m17 m18 m19 m20 m21 m22 m23 m24 m25 m26 m27 m28 =
+    let R : Rows =
+    record {
+      F = F;
+      EF = EF;
+      C = C;
+      S = S;
+      Com = Com;
+      State = State;
+      moves =
+          record {
+            run =
+                run_moves C-ChallengerState.state C-CanObserve-1.after_observe
+                C-CanObserve-2.after_observe C-CanSample.sampled C-CanSample.after_sample
+                C-CanSampleBits.sampled_bits C-CanSampleBits.after_bits
+                C-GrindingChallenger.found_witness EF-ExtensionField.DEGREE
+                EF-ExtensionField.coefficients (of_nat F-Operations.ops) F-Operations.ops.zero;
+          };
+      states = C-ChallengerState;
+    } in
     let w : Says R = record {
       steps = λ d. steps_of EF-ExtensionField.DEGREE (shape_of d);
       numbers = λ d. numbers_of (shape_of d);
       state = C-ChallengerState.state;
-      after = λ c d. after_all C-CanObserve.after_observe (C-ChallengerState.state c)
+      after = λ c d. after_all C-CanObserve-1.after_observe (C-ChallengerState.state c)
           (map (of_nat F-Operations.ops) (text_of EF-ExtensionField.DEGREE (shape_of d)));
     } in
     let ds : Dicts =
@@ -662,39 +736,43 @@ new_spec 𝓤 𝓛 𝓜 𝓡 wired F EF C S State LF LE LC LS LT PF PE F-Field F
     (dcons C-CanSample-dict
     (dcons C-ChallengerState-dict
     (dcons C-GrindingChallenger-dict
-    (dcons C-CanObserve-dict (dcons C-CanSampleBits-dict (dnil)))))))))))))))))))))))))))) in
+    (dcons C-CanObserve-1-dict
+    (dcons C-CanSampleBits-dict (dcons C-CanObserve-2-dict (dnil))))))))))))))))))))))))))))) in
     let A = 𝓛.A in
     let 𝓣 : Tables 𝓤 𝓛.H = tables_of 𝓤 𝓛.H 𝓜 (tables 𝓤 𝓛.H 𝓜 𝓡 𝓡.env) in
     entered 𝓤 𝓛.H (triple_of 𝓛 (ended R).signature (closing 𝓛 (ended R) (held R w 𝓛))) 𝓣.C 𝓣.Λ
     (name (args R ds)) (function R ds)
-    (code.unfolded 𝓤 𝓛.H 𝓜 𝓡 wired (F, (EF, (C, (S, (State, tt))))) F-Field-dict F-Operations-dict
+    (code.unfolded 𝓤 𝓛.H 𝓜 𝓡 wired (F, (EF, (C, (S, (Com, (State, tt)))))) F-Field-dict
+    F-Operations-dict
     F-Clone-dict F-Eq-dict F-PartialEq-dict F-Hash-dict F-Debug-dict F-Add-dict F-Sub-dict
     F-Mul-dict F-Neg-dict EF-ExtensionField-dict EF-Field-dict EF-Operations-dict EF-Clone-dict
     EF-Eq-dict EF-PartialEq-dict EF-Hash-dict EF-Debug-dict EF-Add-dict EF-Sub-dict EF-Mul-dict
     EF-Neg-dict C-CanSample-dict C-ChallengerState-dict C-GrindingChallenger-dict
-    C-CanObserve-dict C-CanSampleBits-dict)
-    (meets R w 𝓛 ds LF LE LC LS 𝓣
+    C-CanObserve-1-dict C-CanSampleBits-dict C-CanObserve-2-dict)
+    (meets R w 𝓛 ds LF LE LC LS LM LT 𝓣
     (seeded.met 𝓤 𝓛 𝓜 𝓡
     (code.calls-circle_transcript::transcript::CircleTranscript::seeded 𝓡.env wired) F EF C S
-    State LF LE LC LS LT PF PE F-Field F-Field-dict F-Operations F-Operations-dict F-Clone
+    Com State LF LE LC LS LM LT PF PE F-Field F-Field-dict F-Operations F-Operations-dict F-Clone
     F-Clone-dict F-Eq F-Eq-dict F-PartialEq F-PartialEq-dict F-Hash F-Hash-dict F-Debug
     F-Debug-dict F-Add F-Add-dict F-Sub F-Sub-dict F-Mul F-Mul-dict F-Neg F-Neg-dict
     EF-ExtensionField EF-ExtensionField-dict EF-Field EF-Field-dict EF-Operations
     EF-Operations-dict EF-Clone EF-Clone-dict EF-Eq EF-Eq-dict EF-PartialEq EF-PartialEq-dict
     EF-Hash EF-Hash-dict EF-Debug EF-Debug-dict EF-Add EF-Add-dict EF-Sub EF-Sub-dict EF-Mul
     EF-Mul-dict EF-Neg EF-Neg-dict C-CanSample C-CanSample-dict C-ChallengerState
-    C-ChallengerState-dict C-GrindingChallenger C-GrindingChallenger-dict C-CanObserve
-    C-CanObserve-dict C-CanSampleBits C-CanSampleBits-dict m0 m1 m2 m3 m4 m5 m6 m7 m8 m9 m10 m11
-    m12 m13 m14 m15 m16 m17 m18 m19 m20 m21 m22 m23 m24 m25 m26 m27)
+    C-ChallengerState-dict C-GrindingChallenger C-GrindingChallenger-dict C-CanObserve-1
+    C-CanObserve-1-dict C-CanSampleBits C-CanSampleBits-dict C-CanObserve-2 C-CanObserve-2-dict m0
+    m1 m2 m3 m4 m5 m6 m7 m8 m9 m10 m11
+    m12 m13 m14 m15 m16 m17 m18 m19 m20 m21 m22 m23 m24 m25 m26 m27 m28)
     (of_seeded.met 𝓤 𝓛 𝓜 𝓡
     (code.calls-circle_transcript::transcript::CircleTranscript::of_seeded 𝓡.env wired) F EF C S
-    State LF LE LC LS LT PF PE F-Field F-Field-dict F-Operations F-Operations-dict F-Clone
+    Com State LF LE LC LS LM LT PF PE F-Field F-Field-dict F-Operations F-Operations-dict F-Clone
     F-Clone-dict F-Eq F-Eq-dict F-PartialEq F-PartialEq-dict F-Hash F-Hash-dict F-Debug
     F-Debug-dict F-Add F-Add-dict F-Sub F-Sub-dict F-Mul F-Mul-dict F-Neg F-Neg-dict
     EF-ExtensionField EF-ExtensionField-dict EF-Field EF-Field-dict EF-Operations
     EF-Operations-dict EF-Clone EF-Clone-dict EF-Eq EF-Eq-dict EF-PartialEq EF-PartialEq-dict
     EF-Hash EF-Hash-dict EF-Debug EF-Debug-dict EF-Add EF-Add-dict EF-Sub EF-Sub-dict EF-Mul
     EF-Mul-dict EF-Neg EF-Neg-dict C-CanSample C-CanSample-dict C-ChallengerState
-    C-ChallengerState-dict C-GrindingChallenger C-GrindingChallenger-dict C-CanObserve
-    C-CanObserve-dict C-CanSampleBits C-CanSampleBits-dict m0 m1 m2 m3 m4 m5 m6 m7 m8 m9 m10 m11
-    m12 m13 m14 m15 m16 m17 m18 m19 m20 m21 m22 m23 m24 m25 m26 m27))
+    C-ChallengerState-dict C-GrindingChallenger C-GrindingChallenger-dict C-CanObserve-1
+    C-CanObserve-1-dict C-CanSampleBits C-CanSampleBits-dict C-CanObserve-2 C-CanObserve-2-dict m0
+    m1 m2 m3 m4 m5 m6 m7 m8 m9 m10 m11
+    m12 m13 m14 m15 m16 m17 m18 m19 m20 m21 m22 m23 m24 m25 m26 m27 m28))

@@ -5,18 +5,22 @@ use Rattle.circle_transcript.specs.Shape.{claim_steps}
 use Rattle.circle_transcript.specs.Draw.{widths_of, after_claims_by}
 use Rattle.circle_transcript.specs.Claims.{claim_of, claims_of}
 use Rattle.circle_transcript.proofs.Playing.{claims-append, drop_read, take_read}
-use Rattle.circle_transcript.proofs.play.observe_claims.Goals as goal
+use Rattle.circle_transcript.proofs.transcript.CircleTranscript.observe_claims.Goals as goal
 
 pub loop-point-init : goal.loop-point-init
 unfolding after_claims_by
-loop-point-init g c = record { same_reference = refl; due = λ rest e. e; state = refl }
+loop-point-init g c = record {
+  same = record { challenger = refl; shape = refl };
+  due = λ rest e. e;
+  state = refl;
+}
 
 pub loop-point-preserved : goal.loop-point-preserved
 loop-point-preserved g c =
     let degree = g.EF.ExtensionField.DEGREE in
-    let observe = g.C.CanObserve.after_observe in
+    let observe = g.C.CanObserve-1.after_observe in
     let coefficients = g.EF.ExtensionField.coefficients in
-    let begun = g.C.ChallengerState.state c.args.transcript.now.challenger.now in
+    let begun = g.C.ChallengerState.state c.args.self.now.challenger.now in
     let claims = c.args.claims.now in
     let i = c.loop-point.point-index in
     let item = c.loop-point-item.result in
@@ -24,8 +28,11 @@ loop-point-preserved g c =
     let rest_of = drop_read claims i item within c.loop-point-item.is in
     let front_of = take_read claims i item within c.loop-point-item.is in
     record {
-      same_reference = c.observe_claim.ensures.same_reference
-          ∙ c.loop-point.invariant.same_reference;
+      same = record {
+        challenger = c.observe_claim.ensures.same.challenger
+            ∙ c.loop-point.invariant.same.challenger;
+        shape = c.observe_claim.ensures.same.shape ∙ c.loop-point.invariant.same.shape;
+      };
       due = λ rest e.
           c.observe_claim.ensures.due _
           (c.loop-point.invariant.due rest e
@@ -52,8 +59,9 @@ returns-clause-due g c = λ rest e.
 
 pub returns-clause-state : goal.returns-clause-state
 returns-clause-state g c =
-    let begun = g.C.ChallengerState.state c.args.transcript.now.challenger.now in
+    let begun = g.C.ChallengerState.state c.args.self.now.challenger.now in
     c.loop-point.invariant.state
-    ∙ ap (λ xs. after_claims_by g.C.CanObserve.after_observe g.EF.ExtensionField.coefficients begun
+    ∙ ap (λ xs. after_claims_by g.C.CanObserve-1.after_observe g.EF.ExtensionField.coefficients
+    begun
     (claims_of xs))
     (take_all c.loop-point.point-index c.args.claims.now c.loop-point-test.false)
