@@ -16,14 +16,15 @@ use Rattle.circle_domain.proofs.Twiddles.{map-map}
 use Rattle.circle_folding.specs.Fold.{folds}
 use Rattle.circle_folding.specs.Chain.{asked_pairs, first_layer_twiddle}
 use Rattle.circle_folding.specs.Queries.{query_point}
-use Rattle.circle_relation.specs.declared.run.OpenedRun.{OpenedRun}
+use Rattle.circle_verifier.specs.declared.run.OpenedRun.{OpenedRun}
 use Rattle.circle_relation.specs.declared.run.QueriedWord.{QueriedWord}
-use Rattle.circle_relation.specs.Accepts.{Fields, Run, Authenticates, FirstLayerAuthenticates}
+use Rattle.circle_relation.specs.Accepts.{Run, Authenticates, FirstLayerAuthenticates}
 use Rattle.circle_relation.specs.Accepts.{at_queries, matrices, top, is_claimed, place_of}
 use Rattle.circle_relation.specs.Accepts.{first_value, first_pair}
 use Rattle.circle_relation.specs.Statement.{log_height}
-use Rattle.circle_relation.specs.RunOf.{run_of, heights_of, reduced_words, first_pairs}
-use Rattle.circle_relation.specs.RunOf.{folded_words, queried, IsDrawn, IsOpened}
+use Rattle.circle_verifier.specs.OfRun.{run_of, heights_of, reduced_words, first_pairs}
+use Rattle.circle_relation.specs.RunOf.{queried}
+use Rattle.circle_verifier.specs.OfRun.{folded_words, IsOpened}
 use Rattle.circle_verifier.specs.FirstLayer.{twiddles_of, pairs_of, folded_word, with_pairs}
 use Rattle.circle_verifier.specs.FirstLayer.{pair_shape}
 use Rattle.circle_verifier.specs.Sums.{word_at}
@@ -40,275 +41,283 @@ All-unmap P f xs all =
     (all i (f d) (omega (arith, lt, length-map xs f)))
 
 -- of a height the queries' values and siblings in the first layer; the pairs of the heights
-module _ {F E I W IC ID IP IE WC WD WP WE : Type 0} {g : _} (k : Fields F E)
-    (o : OpenedRun F E I W IC ID IP IE WC WD WP WE g) where
+module _ {F E I W IC ID IP IE WC WD WP WE : Type 0} {g over inputs ic ip ie words wc wp we : _}
+    (o : OpenedRun F E I W IC ID IP IE WC WD WP WE g over inputs ic ip ie words wc wp we) where
   abbrev at_each : {T : Type 0} → (ℕ → ℕ → T) → List T
-  at_each f = at_queries k o.params.now (run_of o) f
+  at_each f = at_queries over.fields o.params.now (run_of o) f
 
   abbrev pub values_of : ℕ → List E
-  values_of h = at_each (λ j q. first_value k o.params.now (run_of o) j q h)
+  values_of h = at_each (λ j q. first_value over.fields o.params.now (run_of o) j q h)
 
   abbrev pub siblings_of : ℕ → List E
-  siblings_of h = at_each (sibling_at k o.params.now (run_of o) h)
+  siblings_of h = at_each (sibling_at over.fields o.params.now (run_of o) h)
 
   abbrev pub pairs_up_to : ℕ → List (List (List E))
   pairs_up_to n =
-      at_each (λ j q. map (first_pair k o.params.now (run_of o) j q) (take n (heights_of k o)))
+      at_each (λ j q.
+      map (first_pair over.fields o.params.now (run_of o) j q) (take n (heights_of o)))
 
--- a height that is claimed, and its place among all
-pub record IsClaimed {F E I W IC ID IP IE WC WD WP WE : Type 0} {g : _} (k : Fields F E)
-    (o : OpenedRun F E I W IC ID IP IE WC WD WP WE g) (place h : ℕ) : Type 0 where
-  pub drawn : IsDrawn k o
-  pub opened : IsOpened k o
-  pub at : slice_get (heights_of k o) place ≡ Some h
+  -- a height that is claimed, and its place among all
+  pub record IsClaimed (place h : ℕ) : Type 0 where
+    pub opened : IsOpened o
+    pub at : slice_get (heights_of o) place ≡ Some h
 
-pub claimed : {F E I W IC ID IP IE WC WD WP WE : Type 0} {g : _} {k : Fields F E}
-    {o : OpenedRun F E I W IC ID IP IE WC WD WP WE g}
-    → IsDrawn k o → IsOpened k o → (place h : ℕ) → slice_get (heights_of k o) place ≡ Some h →
-    IsClaimed k o place h
-claimed d e place h a = record { drawn = d; opened = e; at = a }
+  pub claimed : IsOpened o → (place h : ℕ) → slice_get (heights_of o) place ≡ Some h →
+      IsClaimed place h
+  claimed opened place h at = record { opened = opened; at = at }
 
--- the reduced codewords
-pub record AreReduced {F E I W IC ID IP IE WC WD WP WE : Type 0} {g : _} {f : _} (k : Fields F E)
-    (o : OpenedRun F E I W IC ID IP IE WC WD WP WE g) (words : List (QueriedWord F E f)) : Type 0
-  where
-    pub drawn : IsDrawn k o
-    pub opened : IsOpened k o
-    pub reduced : map queried words ≡ reduced_words k o
+  -- the reduced codewords
+  pub record AreReduced {f : _} (listed : List (QueriedWord F E f)) : Type 0 where
+    pub opened : IsOpened o
+    pub reduced : map queried listed ≡ reduced_words o
 
-pub all_reduced : {F E I W IC ID IP IE WC WD WP WE : Type 0} {g : _} {k : Fields F E}
-    {o : OpenedRun F E I W IC ID IP IE WC WD WP WE g} {f : _}
-    → IsDrawn k o → IsOpened k o → (words : List (QueriedWord F E f)) → map queried words
-    ≡ reduced_words k o → AreReduced k o words
-all_reduced d e words r = record { drawn = d; opened = e; reduced = r }
+module _ {F E I W IC ID IP IE WC WD WP WE : Type 0} {g over inputs ic ip ie words wc wp we : _}
+    {o : OpenedRun F E I W IC ID IP IE WC WD WP WE g over inputs ic ip ie words wc wp we}
+    {place h : ℕ} (w : IsClaimed o place h) where
+  abbrev r : Run F E WC IC IP WP
+  r = run_of o
 
-module _ {F E I W IC ID IP IE WC WD WP WE : Type 0} {g : _} {k : Fields F E}
-    {o : OpenedRun F E I W IC ID IP IE WC WD WP WE g} {place h : ℕ} (w : IsClaimed k o place h)
-  where
-    abbrev r : Run F E WC IC IP WP
-    r = run_of o
+  kept_height : (is_claimed over.fields o.params.now r h ≡ true) × (0 ≤ h)
+      × (h < 0 + suc (top over.fields o.params.now r))
+  kept_height =
+      kept (is_claimed over.fields o.params.now r) 0 (suc (top over.fields o.params.now r)) place h
+      w.at
 
-    kept_height : (is_claimed k o.params.now r h ≡ true) × (0 ≤ h)
-        × (h < 0 + suc (top k o.params.now r))
-    kept_height = kept (is_claimed k o.params.now r) 0 (suc (top k o.params.now r)) place h w.at
+  -- a height that is claimed is no greater than the greatest, and more than twice the blowup
+  pub height-within : h ≤ o.log_max_height
+  height-within = omega (arith, kept_height.2, o.drawn.top)
 
-    -- a height that is claimed is no greater than the greatest, and more than twice the blowup
-    pub height-within : h ≤ o.log_max_height
-    height-within = omega (arith, kept_height.2, w.drawn.top)
+  pub height-large : o.params.now.log_blowup + 2 ≤ h
+  height-large =
+      let blowup = o.params.now.log_blowup in
+      any-least (log_height blowup) (blowup + 2) h (matrices over.fields o.params.now r)
+      kept_height.0
+      (All-weaker (λ m. o.params.now.log_final_poly_len + 2 ≤ m.log_n)
+      (λ m. blowup + 2 ≤ log_height blowup m) (λ m large. omega (arith, large))
+      (matrices over.fields o.params.now r) w.opened.large)
 
-    pub height-large : o.params.now.log_blowup + 2 ≤ h
-    height-large =
-        let blowup = o.params.now.log_blowup in
-        any-least (log_height blowup) (blowup + 2) h (matrices k o.params.now r) kept_height.0
-        (All-weaker (λ m. o.params.now.log_final_poly_len + 2 ≤ m.log_n)
-        (λ m. blowup + 2 ≤ log_height blowup m) (λ m large. omega (arith, large))
-        (matrices k o.params.now r) w.opened.large)
+  -- its place among the heights
+  pub height-place : place_of over.fields o.params.now r h ≡ place
+  height-place =
+      place-counts (is_claimed over.fields o.params.now r) 0 (suc (top over.fields o.params.now r))
+      place h
+      w.at
 
-    -- its place among the heights
-    pub height-place : place_of k o.params.now r h ≡ place
-    height-place = place-counts (is_claimed k o.params.now r) 0 (suc (top k o.params.now r)) place h
-        w.at
+  pub lambda-there : place < length o.proof.now.lambdas.items
+  lambda-there =
+      omega (arith, slice_get_within (heights_of o) place h w.at, w.opened.shape.lambdas)
 
-    pub lambda-there : place < length o.proof.now.lambdas.items
-    lambda-there =
-        omega (arith, slice_get_within (heights_of k o) place h w.at, w.opened.shape.lambdas)
+  abbrev lists : List (Vec E Global)
+  lists = o.proof.now.fri_proof.input_openings.first_layer_siblings.items
 
-    abbrev lists : List (Vec E Global)
-    lists = o.proof.now.fri_proof.input_openings.first_layer_siblings.items
+  abbrev entries : Vec E Global → List E
+  entries v = v.items
 
-    abbrev entries : Vec E Global → List E
-    entries v = v.items
+  pub siblings-there : All (λ list. place < length list.items) lists
+  siblings-there =
+      let enough : place < length (heights_of o) = slice_get_within
+      (heights_of o) place h w.at in
+      All-unmap (λ xs. place < length xs) entries lists
+      (All-weaker (λ xs. length xs ≡ length (heights_of o)) (λ xs. place < length xs)
+      (λ xs same. omega (arith, enough, same)) (map entries lists)
+      w.opened.shape.first_siblings.1)
 
-    pub siblings-there : All (λ list. place < length list.items) lists
-    siblings-there =
-        let enough : place < length (heights_of k o) = slice_get_within
-        (heights_of k o) place h w.at in
-        All-unmap (λ xs. place < length xs) entries lists
-        (All-weaker (λ xs. length xs ≡ length (heights_of k o)) (λ xs. place < length xs)
-        (λ xs same. omega (arith, enough, same)) (map entries lists)
-        w.opened.shape.first_siblings.1)
+  -- its siblings, by what was read of the lists
+  pub siblings-read : {xs ys : List E} {from : List (Vec E Global)} → xs ≡ ys →
+      ((d : E) → ys ≡ map (λ list. slice_index_or list.items place d) from) → from ≡ lists →
+      xs ≡ siblings_of o h
+  siblings-read same read are =
+      let zero = over.fields.extension.zero in
+      same ∙ read zero ∙ ap (map (λ list. slice_index_or list.items place zero)) are
+      ∙ sym (map-map (λ e. slice_index_or e place zero) entries lists)
+      ∙ siblings-at over.fields o.params.now r h place height-place w.opened.shape.first_siblings.0
 
-    -- its siblings, by what was read of the lists
-    pub siblings-read : {xs ys : List E} {from : List (Vec E Global)} → xs ≡ ys →
-        ((d : E) → ys ≡ map (λ list. slice_index_or list.items place d) from) → from ≡ lists →
-        xs ≡ siblings_of k o h
-    siblings-read same read are =
-        let zero = k.extension.zero in
-        same ∙ read zero ∙ ap (map (λ list. slice_index_or list.items place zero)) are
-        ∙ sym (map-map (λ e. slice_index_or e place zero) entries lists)
-        ∙ siblings-at k o.params.now r h place height-place w.opened.shape.first_siblings.0
+  -- a list that has an entry for each query
+  pub counted : {T : Type 0} (xs : List T) (f : ℕ → ℕ → T) →
+      xs ≡ at_queries over.fields o.params.now r f →
+      length xs ≡ length o.indices.now
+  counted xs f are = ap length are ∙ length-at over.fields o.params.now r f
 
-    -- a list that has an entry for each query
-    pub counted : {T : Type 0} (xs : List T) (f : ℕ → ℕ → T) → xs ≡ at_queries k o.params.now r f →
-        length xs ≡ length o.indices.now
-    counted xs f are = ap length are ∙ length-at k o.params.now r f
+  -- its points
+  pub points-of : (ps : List (Coordinates F)) → ps ≡ (word_at o h).1.0 →
+      ps ≡ map (query_point over.fields.field over.fields.gen h o.log_max_height) o.indices.now
+  points-of ps are =
+      are
+      ∙ sym
+      (at-each over.fields o.params.now r
+      (query_point over.fields.field over.fields.gen h (top over.fields o.params.now r)))
+      ∙ ap (λ high. map (query_point over.fields.field over.fields.gen h high) o.indices.now)
+      (sym o.drawn.top)
 
-    -- its points
-    pub points-of : (ps : List (Coordinates F)) → ps ≡ (word_at k o h).1.0 →
-        ps ≡ map (query_point k.field k.gen h o.log_max_height) o.indices.now
-    points-of ps are =
-        are ∙ sym (at-each k o.params.now r (query_point k.field k.gen h (top k o.params.now r)))
-        ∙ ap (λ high. map (query_point k.field k.gen h high) o.indices.now) (sym w.drawn.top)
+  -- its values, less lambda times the vanishing polynomial
+  pub values-made : {word : ℕ × (List (Coordinates F) × List E)} {ps : List (Coordinates F)}
+      {old new : List E} {lambda : E} →
+      word ≡ word_at o h → ps ≡ word.1.0 → old ≡ word.1.1 →
+      lambda ≡ slice_index_or o.proof.now.lambdas.items place lambda →
+      new
+      ≡ pairwise
+      (λ v p. sub over.fields.extension v
+      (over.fields.extension.mul lambda
+      (over.fields.embed (vanishing over.fields.field (h - o.params.now.log_blowup) p))))
+      old ps →
+      new ≡ values_of o h
+  values-made {ps = ps} {lambda = lambda} is are were read made =
+      let less =
+      λ (t : E) (v : E) (p : Coordinates F). sub over.fields.extension v
+      (over.fields.extension.mul t
+      (over.fields.embed (vanishing over.fields.field (h - o.params.now.log_blowup) p))) in
+      let word = word_at o h in
+      made ∙ ap (λ xs. pairwise (less lambda) xs ps) (were ∙ ap (λ p. p.1.1) is)
+      ∙ ap (pairwise (less lambda) word.1.1) (are ∙ ap (λ p. p.1.0) is)
+      ∙ ap (λ t. pairwise (less t) word.1.1 word.1.0)
+      (read ∙ get_or_default o.proof.now.lambdas.items place lambda over.fields.extension.zero
+      lambda-there)
+      ∙ first-values over.fields o.params.now r h place height-place
 
-    -- its values, less lambda times the vanishing polynomial
-    pub values-made : {word : ℕ × (List (Coordinates F) × List E)} {ps : List (Coordinates F)}
-        {old new : List E} {lambda : E} →
-        word ≡ word_at k o h → ps ≡ word.1.0 → old ≡ word.1.1 →
-        lambda ≡ slice_index_or o.proof.now.lambdas.items place lambda →
-        new
-        ≡ pairwise
-        (λ v p. sub k.extension v
-        (k.extension.mul lambda (k.embed (vanishing k.field (h - o.params.now.log_blowup) p))))
-        old ps →
-        new ≡ values_of k o h
-    values-made {ps = ps} {lambda = lambda} is are were read made =
-        let less =
-        λ (t : E) (v : E) (p : Coordinates F). sub k.extension v
-        (k.extension.mul t (k.embed (vanishing k.field (h - o.params.now.log_blowup) p))) in
-        let word = word_at k o h in
-        made ∙ ap (λ xs. pairwise (less lambda) xs ps) (were ∙ ap (λ p. p.1.1) is)
-        ∙ ap (pairwise (less lambda) word.1.1) (are ∙ ap (λ p. p.1.0) is)
-        ∙ ap (λ t. pairwise (less t) word.1.1 word.1.0)
-        (read ∙ get_or_default o.proof.now.lambdas.items place lambda k.extension.zero
-        lambda-there)
-        ∙ first-values k o.params.now r h place height-place
+  -- its pairs, and what these fold into
+  pub pairs-made : {values siblings : List E} → values ≡ values_of o h →
+      siblings ≡ siblings_of o h →
+      asked_pairs (o.log_max_height - h) o.indices.now values siblings ≡ pairs_of o h
+  pairs-made {siblings = siblings} vs ss =
+      let bits = o.log_max_height - h in
+      ap (λ xs. asked_pairs bits o.indices.now xs siblings) vs
+      ∙ ap (asked_pairs bits o.indices.now (values_of o h)) ss
+      ∙ pairs-at over.fields o.params.now r h bits (ap (λ high. high - h) o.drawn.top)
 
-    -- its pairs, and what these fold into
-    pub pairs-made : {values siblings : List E} → values ≡ values_of k o h →
-        siblings ≡ siblings_of k o h →
-        asked_pairs (o.log_max_height - h) o.indices.now values siblings ≡ pairs_of k o h
-    pairs-made {siblings = siblings} vs ss =
-        let bits = o.log_max_height - h in
-        ap (λ xs. asked_pairs bits o.indices.now xs siblings) vs
-        ∙ ap (asked_pairs bits o.indices.now (values_of k o h)) ss
-        ∙ pairs-at k o.params.now r h bits (ap (λ high. high - h) w.drawn.top)
+  pub folds-made : {twiddles : List F} {pairs : List (List E)} →
+      twiddles ≡ map (first_layer_twiddle over.fields.field over.fields.gen h o.log_max_height)
+      o.indices.now →
+      pairs ≡ pairs_of o h →
+      folds over.fields.extension o.bivariate (map over.fields.embed twiddles) pairs
+      ≡ (folded_word o h).1
+  folds-made {pairs = pairs} ts ps =
+      let twiddles =
+      λ (high : ℕ). map (first_layer_twiddle over.fields.field over.fields.gen h high)
+      o.indices.now in
+      ap (λ xs. folds over.fields.extension o.bivariate (map over.fields.embed xs) pairs)
+      (ts ∙ ap twiddles o.drawn.top)
+      ∙ ap
+      (folds over.fields.extension o.bivariate
+      (map over.fields.embed (twiddles (top over.fields o.params.now r)))) ps
+      ∙ folded-at over.fields o.params.now r h
 
-    pub folds-made : {twiddles : List F} {pairs : List (List E)} →
-        twiddles ≡ map (first_layer_twiddle k.field k.gen h o.log_max_height) o.indices.now →
-        pairs ≡ pairs_of k o h →
-        folds k.extension o.bivariate (map k.embed twiddles) pairs ≡ (folded_word k o h).1
-    folds-made {pairs = pairs} ts ps =
-        let twiddles = λ (high : ℕ). map (first_layer_twiddle k.field k.gen h high) o.indices.now in
-        ap (λ xs. folds k.extension o.bivariate (map k.embed xs) pairs)
-        (ts ∙ ap twiddles w.drawn.top)
-        ∙ ap (folds k.extension o.bivariate (map k.embed (twiddles (top k o.params.now r)))) ps
-        ∙ folded-at k o.params.now r h
+  -- the codewords so far, with that of this height
+  pub folded-more : {fs : List (ℕ × List E)} {word : ℕ × List E} →
+      fs ≡ take place (folded_words o) → word ≡ folded_word o h → fs ++ word ∷ []
+      ≡ take (place + 1) (folded_words o)
+  folded-more {word = word} are is =
+      ap (λ xs. xs ++ word ∷ []) are ∙ ap (λ x. take place (folded_words o) ++ x ∷ []) is
+      ∙ sym (take-push-map (folded_word o) (heights_of o) place h w.at)
 
-    -- the codewords so far, with that of this height
-    pub folded-more : {fs : List (ℕ × List E)} {word : ℕ × List E} →
-        fs ≡ take place (folded_words k o) → word ≡ folded_word k o h → fs ++ word ∷ []
-        ≡ take (place + 1) (folded_words k o)
-    folded-more {word = word} are is =
-        ap (λ xs. xs ++ word ∷ []) are ∙ ap (λ x. take place (folded_words k o) ++ x ∷ []) is
-        ∙ sym (take-push-map (folded_word k o) (heights_of k o) place h w.at)
+  -- the rows so far, with those of this height
+  pub pairs-more : {rows new : List (List (List E))} → rows ≡ pairs_up_to o place →
+      new ≡ with_pairs rows (pairs_of o h) → new ≡ pairs_up_to o (place + 1)
+  pairs-more are pushed =
+      let pair = first_pair over.fields o.params.now r in
+      pushed ∙ ap (λ xs. with_pairs xs (pairs_of o h)) are
+      ∙ rows-pushed over.fields o.params.now r pair (take place (heights_of o)) h
+      ∙ ap (λ hs. at_queries over.fields o.params.now r (λ j q. map (pair j q) hs))
+      (sym (take-push (heights_of o) place h w.at))
 
-    -- the rows so far, with those of this height
-    pub pairs-more : {rows new : List (List (List E))} → rows ≡ pairs_up_to k o place →
-        new ≡ with_pairs rows (pairs_of k o h) → new ≡ pairs_up_to k o (place + 1)
-    pairs-more are pushed =
-        let pair = first_pair k o.params.now r in
-        pushed ∙ ap (λ xs. with_pairs xs (pairs_of k o h)) are
-        ∙ rows-pushed k o.params.now r pair (take place (heights_of k o)) h
-        ∙ ap (λ hs. at_queries k o.params.now r (λ j q. map (pair j q) hs))
-        (sym (take-push (heights_of k o) place h w.at))
+  -- of the inverses of this height and of those above it, its own, and the others
+  pub next-inverses : {later : List F} →
+      later ≡ map over.fields.field.inv (flat_map (twiddles_of o) (drop place (heights_of o))) →
+      (length o.indices.now ≤ length later)
+      × (take (length o.indices.now) later ≡ map over.fields.field.inv (twiddles_of o h))
+      × (drop (length o.indices.now) later
+      ≡ map over.fields.field.inv (flat_map (twiddles_of o) (drop (place + 1) (heights_of o))))
+  next-inverses are =
+      let twiddles = twiddles_of o in
+      let n = length o.indices.now in
+      let rest = drop (place + 1) (heights_of o) in
+      let long =
+      length-map o.indices.now
+      (first_layer_twiddle over.fields.field over.fields.gen h o.log_max_height) in
+      let parts =
+      are ∙ ap (λ hs. map over.fields.field.inv (flat_map twiddles hs))
+      (heights-split (heights_of o) place h w.at) in (
+        omega (arith, ap length parts, part-within over.fields.field.inv twiddles h rest n long),
+        ap (take n) parts ∙ first-part over.fields.field.inv twiddles h rest n long,
+        ap (drop n) parts ∙ later-parts over.fields.field.inv twiddles h rest n long,
+      )
 
-    -- of the inverses of this height and of those above it, its own, and the others
-    pub next-inverses : {later : List F} →
-        later ≡ map k.field.inv (flat_map (twiddles_of k o) (drop place (heights_of k o))) →
-        (length o.indices.now ≤ length later)
-        × (take (length o.indices.now) later ≡ map k.field.inv (twiddles_of k o h))
-        × (drop (length o.indices.now) later
-        ≡ map k.field.inv (flat_map (twiddles_of k o) (drop (place + 1) (heights_of k o))))
-    next-inverses are =
-        let twiddles = twiddles_of k o in
-        let n = length o.indices.now in
-        let rest = drop (place + 1) (heights_of k o) in
-        let long =
-        length-map o.indices.now (first_layer_twiddle k.field k.gen h o.log_max_height) in
-        let parts =
-        are ∙ ap (λ hs. map k.field.inv (flat_map twiddles hs))
-        (heights-split (heights_of k o) place h w.at) in (
-          omega (arith, ap length parts, part-within k.field.inv twiddles h rest n long),
-          ap (take n) parts ∙ first-part k.field.inv twiddles h rest n long,
-          ap (drop n) parts ∙ later-parts k.field.inv twiddles h rest n long,
-        )
-
-module _ {F E I W IC ID IP IE WC WD WP WE : Type 0} {g : _} {k : Fields F E}
-    {o : OpenedRun F E I W IC ID IP IE WC WD WP WE g} {f : _} {words : List (QueriedWord F E f)}
-    (a : AreReduced k o words) where
+module _ {F E I W IC ID IP IE WC WD WP WE : Type 0} {g over inputs ic ip ie words wc wp we : _}
+    {o : OpenedRun F E I W IC ID IP IE WC WD WP WE g over inputs ic ip ie words wc wp we}
+    {f : _} {listed : List (QueriedWord F E f)} (a : AreReduced o listed) where
   -- the codeword at a place is that of a height that is claimed
-  pub word-of : (n : ℕ) (word : QueriedWord F E f) → n < length words →
-      word ≡ slice_index_or words n word →
-      IsClaimed k o n word.log_height × (queried word ≡ word_at k o word.log_height)
+  pub word-of : (n : ℕ) (word : QueriedWord F E f) → n < length listed →
+      word ≡ slice_index_or listed n word →
+      IsClaimed o n word.log_height × (queried word ≡ word_at o word.log_height)
   word-of n word lt read =
-      let t = word-there (word_at k o) (heights_of k o) (map queried words) n (queried word)
-      (λ h. refl) a.reduced (omega (arith, lt, length-map words queried))
-      (ap queried read ∙ sym (get_or-map queried words n word (queried word) lt)) in
-      (record { drawn = a.drawn; opened = a.opened; at = t.0 }, t.1)
+      let t = word-there (word_at o) (heights_of o) (map queried listed) n (queried word)
+      (λ h. refl) a.reduced (omega (arith, lt, length-map listed queried))
+      (ap queried read ∙ sym (get_or-map queried listed n word (queried word) lt)) in
+      (record { opened = a.opened; at = t.0 }, t.1)
 
-  pub place-of : {m n h : ℕ} → m ≡ n → IsClaimed k o n h → slice_get (heights_of k o) m ≡ Some h
-  place-of same w = ap (slice_get (heights_of k o)) same ∙ w.at
+  pub place-of : {m n h : ℕ} → m ≡ n → IsClaimed o n h → slice_get (heights_of o) m ≡ Some h
+  place-of same w = ap (slice_get (heights_of o)) same ∙ w.at
 
   -- no row has a pair yet
   pub none-yet : {rows : List (List (List E))} → rows ≡ map (λ _. []) o.indices.now →
-      rows ≡ pairs_up_to k o 0
-  none-yet are = are ∙ at-each k o.params.now (run_of o) (λ q. [])
+      rows ≡ pairs_up_to o 0
+  none-yet are = are ∙ at-each over.fields o.params.now (run_of o) (λ q. [])
 
-  pub count-rows : (rows : List (List (List E))) (n : ℕ) → rows ≡ pairs_up_to k o n →
+  pub count-rows : (rows : List (List (List E))) (n : ℕ) → rows ≡ pairs_up_to o n →
       length rows ≡ length o.indices.now
   count-rows rows n are =
       ap length are
-      ∙ length-at k o.params.now (run_of o)
-      (λ j q. map (first_pair k o.params.now (run_of o) j q) (take n (heights_of k o)))
+      ∙ length-at over.fields o.params.now (run_of o)
+      (λ j q. map (first_pair over.fields o.params.now (run_of o) j q) (take n (heights_of o)))
 
   -- all codewords
-  pub all-heights : (n : ℕ) → n ≡ length words → length (heights_of k o) ≡ n
+  pub all-heights : (n : ℕ) → n ≡ length listed → length (heights_of o) ≡ n
   all-heights n all =
-      sym (all ∙ sym (length-map words queried) ∙ ap length a.reduced
-      ∙ length-map (heights_of k o) (word_at k o))
+      sym (all ∙ sym (length-map listed queried) ∙ ap length a.reduced
+      ∙ length-map (heights_of o) (word_at o))
 
-  pub pairs-all : (rows : List (List (List E))) (n : ℕ) → n ≡ length words →
-      rows ≡ pairs_up_to k o n → rows ≡ first_pairs k o
+  pub pairs-all : (rows : List (List (List E))) (n : ℕ) → n ≡ length listed →
+      rows ≡ pairs_up_to o n → rows ≡ first_pairs o
   pairs-all rows n all are =
       are
       ∙ ap
-      (λ hs. at_queries k o.params.now (run_of o)
-      (λ j q. map (first_pair k o.params.now (run_of o) j q) hs))
-      (take_all n (heights_of k o) (omega (arith, all-heights n all)))
+      (λ hs. at_queries over.fields o.params.now (run_of o)
+      (λ j q. map (first_pair over.fields o.params.now (run_of o) j q) hs))
+      (take_all n (heights_of o) (omega (arith, all-heights n all)))
 
-  pub folded-all : (fs : List (ℕ × List E)) (n : ℕ) → n ≡ length words →
-      fs ≡ take n (folded_words k o) → fs ≡ folded_words k o
+  pub folded-all : (fs : List (ℕ × List E)) (n : ℕ) → n ≡ length listed →
+      fs ≡ take n (folded_words o) → fs ≡ folded_words o
   folded-all fs n all are =
       are
-      ∙ take_all n (folded_words k o)
-      (omega (arith, all-heights n all, length-map (heights_of k o) (folded_word k o)))
+      ∙ take_all n (folded_words o)
+      (omega (arith, all-heights n all, length-map (heights_of o) (folded_word o)))
 
-module _ {F E I W IC ID IP IE WC WD WP WE : Type 0} {g : _} {k : Fields F E}
-    {o : OpenedRun F E I W IC ID IP IE WC WD WP WE g} (drawn : IsDrawn k o) (opened : IsOpened k o)
+module _ {F E I W IC ID IP IE WC WD WP WE : Type 0} {g over inputs ic ip ie words wc wp we : _}
+    {o : OpenedRun F E I W IC ID IP IE WC WD WP WE g over inputs ic ip ie words wc wp we}
+    (opened : IsOpened o)
   where
     -- the heights that are claimed are those of codewords that fold by pairs
-    pub heights-fit : (hs : List ℕ) → k.two_adicity ≤ 62 → hs ≡ heights_of k o →
+    pub heights-fit : (hs : List ℕ) → over.fields.two_adicity ≤ 62 → hs ≡ heights_of o →
         All (λ h. (1 ≤ h) × (h ≤ 63)) hs
     heights-fit hs small are = λ i d lt.
-        let at : slice_get (heights_of k o) i ≡ Some (slice_index_or hs i d) =
+        let at : slice_get (heights_of o) i ≡ Some (slice_index_or hs i d) =
         ap (λ xs. slice_get xs i) (sym are) ∙ slice_get-get_or hs i d lt in
-        let c = claimed drawn opened i (slice_index_or hs i d) at in (
+        let c = claimed o opened i (slice_index_or hs i d) at in (
           omega (arith, height-large c),
-          omega (arith, height-within c, drawn.in_group, small),
+          omega (arith, height-within c, o.drawn.in_group, small),
         )
 
     -- the first layer authenticates by what the scheme is to show
     pub layer-asked : (A : Authenticates WC E WP) (shapes : List Dimensions) (places : List ℕ)
         (rows : List (List (List E))) →
-        shapes ≡ map pair_shape (heights_of k o) → places ≡ map (λ q. q / 2) o.indices.now →
-        rows ≡ first_pairs k o →
-        FirstLayerAuthenticates k o.params.now (run_of o) A →
+        shapes ≡ map pair_shape (heights_of o) → places ≡ map (λ q. q / 2) o.indices.now →
+        rows ≡ first_pairs o →
+        FirstLayerAuthenticates over.fields o.params.now (run_of o) A →
         A o.proof.now.first_layer_commitment shapes places rows
         o.proof.now.fri_proof.input_openings.first_layer_proof
     layer-asked A shapes places rows ss ps rs held =
         let commitment = o.proof.now.first_layer_commitment in
         let proof = o.proof.now.fri_proof.input_openings.first_layer_proof in
-        let all = map pair_shape (heights_of k o) in
+        let all = map pair_shape (heights_of o) in
         let halved = map (λ q. q / 2) o.indices.now in
         subst (λ xs. A commitment xs places rows proof) (sym ss)
         (subst (λ xs. A commitment all xs rows proof) (sym ps)

@@ -16,10 +16,10 @@ use Rattle.circle_domain.proofs.Twiddles.{length-coset}
 use Rattle.circle_domain.proofs.CosetOrder.{cfft-place, with_opposites-even}
 use Rattle.circle_point.specs.Basis.{x_value}
 use Rattle.circle_relation.specs.Statement.{MatrixClaim, log_max_height}
-use Rattle.circle_relation.specs.Accepts.{Fields, Fields, Run, matrices, at_queries, rounds}
+use Rattle.circle_relation.specs.Accepts.{Fields, Run, matrices, at_queries, rounds}
 use Rattle.circle_relation.specs.Accepts.{final_value}
-use Rattle.circle_relation.specs.declared.run.OpenedRun.{OpenedRun}
-use Rattle.circle_relation.specs.RunOf.{run_of, IsDrawn}
+use Rattle.circle_verifier.specs.declared.run.OpenedRun.{OpenedRun}
+use Rattle.circle_verifier.specs.OfRun.{run_of}
 use Rattle.circle_relation.proofs.AtQueries.{zip-placed, length-placed, placed-read}
 
 -- the greatest height is past the least that is claimed
@@ -75,8 +75,11 @@ module _ {F E M C IC IP WP : Type 0} (fields : Fields F E) (params : FriParamete
       here ∙ ap (λ xs. slice_index_or xs j v) (all ∙ zip-placed f 0 qs)
       ∙ placed-read f 0 qs j v 0 lt ∙ ap (λ i. f i (slice_index_or qs j 0)) none
 
-module _ {F E I W IC ID IP IE WC WD WP WE : Type 0} {g : _} (k : Fields F E)
-    (o : OpenedRun F E I W IC ID IP IE WC WD WP WE g) (drawn : IsDrawn k o) where
+module _ {F E I W IC ID IP IE WC WD WP WE : Type 0} {g over inputs ic ip ie words wc wp we : _}
+    (o : OpenedRun F E I W IC ID IP IE WC WD WP WE g over inputs ic ip ie words wc wp we) where
+  abbrev k : Fields F E
+  k = over.fields
+
   abbrev log_len : ℕ
   log_len = o.params.now.log_blowup + o.params.now.log_final_poly_len
 
@@ -84,15 +87,15 @@ module _ {F E I W IC ID IP IE WC WD WP WE : Type 0} {g : _} (k : Fields F E)
   pub last-short : log_len < o.log_max_height
   last-short =
       let past = highest-past o.params.now.log_blowup (o.params.now.log_final_poly_len + 1)
-      (matrices k o.params.now (run_of o)) drawn.some_matrix drawn.large in
-      omega (arith, past, drawn.top)
+      (matrices k o.params.now (run_of o)) o.drawn.some_matrix o.drawn.large in
+      omega (arith, past, o.drawn.top)
 
   -- the place of a query in it
   pub last-place : (q : ℕ) → q / 2 ^ (rounds k o.params.now (run_of o) + 1)
       ≡ q / 2 ^ (o.log_max_height - log_len)
   last-place q =
       let e : rounds k o.params.now (run_of o) + 1 ≡ o.log_max_height - log_len =
-      omega (arith, last-short, drawn.top) in
+      omega (arith, last-short, o.drawn.top) in
       ap (λ n. q / 2 ^ n) e
 
   pub last-low : (j : ℕ) → j < length o.indices.now →
@@ -101,7 +104,7 @@ module _ {F E I W IC ID IP IE WC WD WP WE : Type 0} {g : _} (k : Fields F E)
       let whole : o.log_max_height ≡ log_len + (o.log_max_height - log_len) =
       omega (arith, last-short) in
       shr_below (slice_index_or o.indices.now j 0) log_len (o.log_max_height - log_len)
-      (subst (λ h. slice_index_or o.indices.now j 0 < 2 ^ h) whole (drawn.below j 0 lt))
+      (subst (λ h. slice_index_or o.indices.now j 0 < 2 ^ h) whole (o.drawn.below j 0 lt))
 
   -- the final polynomial's value there
   pub final-at : (j : ℕ) (x : F) (v : E) → j < length o.indices.now →

@@ -15,12 +15,13 @@ use Rattle.circle_commit.specs.declared.pcs.CommitmentOpening.{CommitmentOpening
 use Rattle.circle_commit.specs.declared.pcs.BatchMultiOpening.{BatchMultiOpening}
 use Rattle.circle_commit.specs.Mmcs.{opened_rows}
 use Rattle.circle_domain.specs.declared.domain.CircleDomain.{CircleDomain}
-use Rattle.circle_relation.specs.Accepts.{Fields, Fields, Run, IsAsLongAsClaims, HasRows}
+use Rattle.circle_relation.specs.Accepts.{Fields, Run, IsAsLongAsClaims, HasRows}
 use Rattle.circle_relation.specs.Accepts.{HasSiblings, HasInputs, claimed_heights}
 use Rattle.circle_relation.specs.StatementOf.{point_claim, matrix_claim, matrix_claims, batch_claim}
 use Rattle.circle_relation.specs.StatementOf.{batch_claims}
-use Rattle.circle_relation.specs.RunOf.{opened_batch, run_of, heights_of}
-use Rattle.circle_relation.specs.declared.run.OpenedRun.{OpenedRun}
+use Rattle.circle_relation.specs.RunOf.{opened_batch}
+use Rattle.circle_verifier.specs.OfRun.{run_of, heights_of}
+use Rattle.circle_verifier.specs.declared.run.OpenedRun.{OpenedRun}
 use Rattle.circle_verifier.specs.Shape.{have_values, rows_fit, opened_fit, inputs_fit, siblings_fit}
 
 -- a second test, after one of numbers that are the same
@@ -165,8 +166,12 @@ shape-decides fields params r a b d t rows siblings lambdas is =
     (λ h. ((h.inputs, h.rows), (h.first_siblings, h.lambdas))))
 
 -- what a run is tested for
-module _ {F E I W IC ID IP IE WC WD WP WE : Type 0} {g : _} (k : Fields F E)
-    (o : OpenedRun F E I W IC ID IP IE WC WD WP WE g) (count : ℕ) where
+module _ {F E I W IC ID IP IE WC WD WP WE : Type 0} {g over inputs ic ip ie words wc wp we : _}
+    (o : OpenedRun F E I W IC ID IP IE WC WD WP WE g over inputs ic ip ie words wc wp we)
+    (count : ℕ) where
+  abbrev k : Fields F E
+  k = over.fields
+
   abbrev pub rows_test : Bool
   rows_test =
       inputs_fit (length o.indices.now) o.claims.now
@@ -180,7 +185,7 @@ module _ {F E I W IC ID IP IE WC WD WP WE : Type 0} {g : _} (k : Fields F E)
   abbrev pub lambdas_test : Bool
   lambdas_test = vec_len o.proof.now.lambdas == count
 
-  pub run-decides : (t : Bool) → count ≡ length (heights_of k o) →
+  pub run-decides : (t : Bool) → count ≡ length (heights_of o) →
       (rows_test && (siblings_test && lambdas_test)) ≡ t →
       Decides t (HasInputs k o.params.now (run_of o))
   run-decides t due is =

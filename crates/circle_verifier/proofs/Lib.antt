@@ -12,7 +12,7 @@ pub mod Lengths
 pub mod Points
 pub mod ReducedRows
 pub mod ReducedWidths
-pub mod ReducedWords
+pub mod ReducedValues
 pub mod Replayed
 pub mod RoundsOpened
 pub mod RoundsValues

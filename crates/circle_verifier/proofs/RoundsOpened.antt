@@ -10,13 +10,14 @@ use Rattle.std.proofs.lemmas.Slice.Zip.{length-zip, get_or-zip}
 use Rattle.circle_domain.proofs.Powers.{pow_within}
 use Rattle.circle_domain.proofs.Twiddles.{map-map}
 use Rattle.circle_relation.specs.Statement.{Opened}
-use Rattle.circle_relation.specs.Accepts.{Fields, Authenticates, top, at_queries, round_pair}
+use Rattle.circle_relation.specs.Accepts.{Fields, top, at_queries, round_pair}
 use Rattle.circle_relation.specs.Accepts.{HasSiblings, RoundAuthenticates, RoundsAuthenticate}
 use Rattle.circle_relation.specs.declared.proof.CircleCommitPhaseMultiStep.{CircleCommitPhaseMultiStep}
-use Rattle.circle_relation.specs.declared.run.OpenedRun.{OpenedRun}
-use Rattle.circle_relation.specs.RunOf.{run_of, opened_round, IsDrawn}
+use Rattle.circle_verifier.specs.declared.run.OpenedRun.{OpenedRun}
+use Rattle.circle_relation.specs.RunOf.{opened_round}
+use Rattle.circle_verifier.specs.OfRun.{run_of}
 use Rattle.circle_relation.proofs.AtQueries.{placed, zip-placed, map-placed, listed-placed}
-use Rattle.circle_verifier.specs.Rounds.{siblings_in, HasRoundOf}
+use Rattle.circle_verifier.specs.Rounds.{siblings_in, HasRound}
 
 -- one shifted to the left
 pub shifted-one : (e : ℕ) → e < 63 → 1 * 2 ^ e % 2 ^ 64 ≡ 2 ^ e
@@ -25,8 +26,11 @@ shifted-one e lt =
     let below : 1 * 2 ^ e < 2 ^ 64 = omega (arith, room, pow-suc 2 e) in
     mod-eq_of_lt below ∙ (let same : 1 * 2 ^ e ≡ 2 ^ e = omega arith in same)
 
-module _ {F E I W IC ID IP IE WC WD WP WE : Type 0} {g : _} (k : Fields F E)
-    (o : OpenedRun F E I W IC ID IP IE WC WD WP WE g) (drawn : IsDrawn k o) where
+module _ {F E I W IC ID IP IE WC WD WP WE : Type 0} {g over inputs ic ip ie words wc wp we : _}
+    (o : OpenedRun F E I W IC ID IP IE WC WD WP WE g over inputs ic ip ie words wc wp we) where
+  abbrev k : Fields F E
+  k = over.fields
+
   abbrev queries : List ℕ
   queries = o.indices.now
 
@@ -43,10 +47,11 @@ module _ {F E I W IC ID IP IE WC WD WP WE : Type 0} {g : _} (k : Fields F E)
   all_rounds = zip (range_with_len 0 (length opened)) opened
 
   pub of-commits : (n : ℕ) → n < length o.betas.now → n < length commits
-  of-commits n lt = omega (arith, lt, drawn.betas, drawn.shape.commitments)
+  of-commits n lt = omega (arith, lt, o.drawn.betas, o.drawn.shape.commitments)
 
   pub of-steps : (n : ℕ) → n < length o.betas.now → n < length steps
-  of-steps n lt = omega (arith, lt, drawn.betas, drawn.shape.opened, length-map steps opened_round)
+  of-steps n lt =
+      omega (arith, lt, o.drawn.betas, o.drawn.shape.opened, length-map steps opened_round)
 
   pub of-rounds : (n : ℕ) → n < length all_rounds → n < length o.betas.now
   of-rounds n lt =
@@ -58,8 +63,8 @@ module _ {F E I W IC ID IP IE WC WD WP WE : Type 0} {g : _} (k : Fields F E)
         long,
         length-range_with_len 0 (length opened),
         counted,
-        drawn.betas,
-        drawn.shape.commitments,
+        o.drawn.betas,
+        o.drawn.shape.commitments,
       )
 
   module _ (n : ℕ) (lt : n < length o.betas.now) (c : WC)
@@ -103,18 +108,20 @@ module _ {F E I W IC ID IP IE WC WD WP WE : Type 0} {g : _} (k : Fields F E)
         ∙ ap (λ x. (c, x)) step-here)
 
     -- what the scheme is to show, and what the relation says
-    module _ (words : W → Authenticates WC E WP) (height : ℕ) (places : List ℕ)
+    module _ (height : ℕ) (places : List ℕ)
         (rows : List (List (List E))) (is_height : height ≡ 2 ^ (o.log_max_height - 2 - n))
         (are_places : places ≡ map (λ q. q / 2 ^ (n + 2)) queries)
         (are_rows : rows
         ≡ at_queries k o.params.now (run_of o)
         (λ j q. round_pair k o.params.now (run_of o) j q n ∷ [])) where
       abbrev asks : ℕ → List ℕ → List (List (List E)) → Type 0
-      asks h ps rs = words o.params.now.mmcs c (record { width = 2; height = h } ∷ []) ps rs
+      asks h ps rs = words.authenticates o.params.now.mmcs c (record { width = 2; height = h } ∷ [])
+          ps rs
           p.opening_proof
 
       abbrev shows : ℕ × (WC × Opened (List E) WP) → Type 0
-      shows x = RoundAuthenticates k o.params.now (run_of o) (words o.params.now.mmcs) x
+      shows x = RoundAuthenticates k o.params.now (run_of o) (words.authenticates o.params.now.mmcs)
+          x
 
       abbrev due_height : ℕ
       due_height = 2 ^ (top k o.params.now (run_of o) - 2 - n)
@@ -128,9 +135,9 @@ module _ {F E I W IC ID IP IE WC WD WP WE : Type 0} {g : _} (k : Fields F E)
           ∷ [])
 
       same-height : height ≡ due_height
-      same-height = is_height ∙ ap (λ h. 2 ^ (h - 2 - n)) drawn.top
+      same-height = is_height ∙ ap (λ h. 2 ^ (h - 2 - n)) o.drawn.top
 
-      pub shown-round : asks height places rows → HasRoundOf k o words n
+      pub shown-round : asks height places rows → HasRound o n
       shown-round told = λ d lt_all.
           let whole : asks due_height due_places due_rows =
           subst (asks due_height due_places) are_rows
@@ -140,7 +147,8 @@ module _ {F E I W IC ID IP IE WC WD WP WE : Type 0} {g : _} (k : Fields F E)
           (sym (get_or_default all_rounds n d (n, (c, opened_round p)) lt_all ∙ round-here))
           whole
 
-      pub round-shown : RoundsAuthenticate k o.params.now (run_of o) (words o.params.now.mmcs) →
+      pub round-shown : RoundsAuthenticate k o.params.now (run_of o)
+          (words.authenticates o.params.now.mmcs) →
           asks height places rows
       round-shown all =
           let whole : asks due_height due_places due_rows =
@@ -161,14 +169,14 @@ module _ {F E I W IC ID IP IE WC WD WP WE : Type 0} {g : _} (k : Fields F E)
     of-siblings : HasSiblings k o.params.now (run_of o) 1 (opened_round p)
     of-siblings =
         subst (HasSiblings k o.params.now (run_of o) 1) step-there
-        (drawn.shape.siblings n (opened_round p)
+        (o.drawn.shape.siblings n (opened_round p)
         (omega (arith, of-steps n lt, length-map steps opened_round)))
 
     pub one-sibling : All (λ row. length row ≡ 1) siblings
     one-sibling = of-siblings.1
 
     pub siblings-are : map (λ row. slice_index_or row.items 0 k.extension.zero)
-        p.sibling_values.items ≡ siblings_in k o n
+        p.sibling_values.items ≡ siblings_in o n
     siblings-are =
         let head = λ (row : List E). slice_index_or row 0 k.extension.zero in
         let entries : Opened (List E) WP → List (List E) = λ x. x.entries in

@@ -16,9 +16,9 @@ use Rattle.circle_folding.specs.Fold.{fold_pair, folds}
 use Rattle.circle_folding.specs.Chain.{pair_of, asked_pairs, round_twiddle}
 use Rattle.circle_relation.specs.Statement.{MatrixClaim, log_height}
 use Rattle.circle_relation.specs.Accepts.{Fields, top, is_claimed, matrices, at_queries, folded}
-use Rattle.circle_relation.specs.Accepts.{joining, sibling_in, round_value, round_pair, rounds}
-use Rattle.circle_relation.specs.declared.run.OpenedRun.{OpenedRun}
-use Rattle.circle_relation.specs.RunOf.{run_of, IsDrawn}
+use Rattle.circle_relation.specs.Accepts.{joining, sibling_in, round_value, round_pair}
+use Rattle.circle_verifier.specs.declared.run.OpenedRun.{OpenedRun}
+use Rattle.circle_verifier.specs.OfRun.{run_of}
 use Rattle.circle_relation.proofs.AtQueries.{placed, zip-placed, length-placed, pairwise-placed}
 use Rattle.circle_relation.proofs.AtQueries.{map-placed, itself-placed, same-placed}
 use Rattle.circle_verifier.specs.Rounds.{values_in, siblings_in, folds_in, words_below}
@@ -68,8 +68,15 @@ top-claimed blowup (m ∷ ms) some =
     (eq-eqb (height (slice_index_or all there.0 m)) (greatest (map height all))
     (sym (get_or-map height all there.0 m 0 within) ∙ there.2))
 
-module _ {F E I W IC ID IP IE WC WD WP WE : Type 0} {g : _} (k : Fields F E)
-    (o : OpenedRun F E I W IC ID IP IE WC WD WP WE g) where
+module _ {F E I W IC ID IP IE WC WD WP WE : Type 0} {g over inputs ic ip ie words wc wp we : _}
+    (o : OpenedRun F E I W IC ID IP IE WC WD WP WE g over inputs ic ip ie words wc wp we) where
+  abbrev k : Fields F E
+  k = over.fields
+
+  -- a round is due only above the last codeword
+  pub round-within : (n : ℕ) → n < length o.betas.now → n + 3 ≤ o.log_max_height
+  round-within n lt = omega (arith, lt, o.drawn.betas, o.drawn.top, o.drawn.blowup)
+
   abbrev queries : List ℕ
   queries = o.indices.now
 
@@ -89,23 +96,23 @@ module _ {F E I W IC ID IP IE WC WD WP WE : Type 0} {g : _} (k : Fields F E)
   fold n j q = fold_pair k.extension (slice_index_or o.betas.now n k.extension.zero)
       (k.embed (twiddle n q)) (pair n j q)
 
-  pub length-values_in : (n : ℕ) → length (values_in k o n) ≡ length queries
+  pub length-values_in : (n : ℕ) → length (values_in o n) ≡ length queries
   length-values_in n = ap length (zip-placed (value n) 0 queries)
       ∙ length-placed (value n) 0 queries
 
-  pub length-siblings_in : (n : ℕ) → length (siblings_in k o n) ≡ length queries
+  pub length-siblings_in : (n : ℕ) → length (siblings_in o n) ≡ length queries
   length-siblings_in n = ap length (zip-placed (sibling n) 0 queries)
       ∙ length-placed (sibling n) 0 queries
 
-  pub length-folds_in : (n : ℕ) → length (folds_in k o n) ≡ length queries
+  pub length-folds_in : (n : ℕ) → length (folds_in o n) ≡ length queries
   length-folds_in n = ap length (zip-placed (fold n) 0 queries) ∙ length-placed (fold n) 0 queries
 
   -- where a height joins, and where none does
   pub joined : (n b : ℕ) → top k o.params.now (run_of o) - 1 - n ≡ b →
       is_claimed k o.params.now (run_of o) b ≡ true →
-      pairwise k.extension.add (folds_in k o n)
+      pairwise k.extension.add (folds_in o n)
       (at_queries k o.params.now (run_of o) (λ j q. folded k o.params.now (run_of o) j q b))
-      ≡ values_in k o (suc n)
+      ≡ values_in o (suc n)
   joined n b height is =
       let r = run_of o in
       let add = k.extension.add in
@@ -120,7 +127,7 @@ module _ {F E I W IC ID IP IE WC WD WP WE : Type 0} {g : _} (k : Fields F E)
       ∙ sym (zip-placed (value (suc n)) 0 queries)
 
   pub unjoined : RingLaws k.extension → (n b : ℕ) → top k o.params.now (run_of o) - 1 - n ≡ b →
-      is_claimed k o.params.now (run_of o) b ≡ false → folds_in k o n ≡ values_in k o (suc n)
+      is_claimed k o.params.now (run_of o) b ≡ false → folds_in o n ≡ values_in o (suc n)
   unjoined laws n b height isnt =
       let r = run_of o in
       let add = k.extension.add in
@@ -135,8 +142,8 @@ module _ {F E I W IC ID IP IE WC WD WP WE : Type 0} {g : _} (k : Fields F E)
       ∙ sym (zip-placed (value (suc n)) 0 queries)
 
   -- the pairs at the queries
-  asked : (n : ℕ) (values siblings : List E) → values ≡ values_in k o n → siblings ≡ siblings_in
-      k o n → asked_pairs (n + 1) queries values siblings ≡ placed (pair n) 0 queries
+  asked : (n : ℕ) (values siblings : List E) → values ≡ values_in o n → siblings ≡ siblings_in o n →
+      asked_pairs (n + 1) queries values siblings ≡ placed (pair n) 0 queries
   asked n values siblings vs ss =
       let begin = λ (q : ℕ). pair_of {E = E} (q / 2 ^ (n + 1)) in
       ap (λ xs. asked_pairs (n + 1) queries xs siblings) (vs ∙ zip-placed (value n) 0 queries)
@@ -146,8 +153,8 @@ module _ {F E I W IC ID IP IE WC WD WP WE : Type 0} {g : _} (k : Fields F E)
       (pairwise-queries begin (value n) 0 queries)
       ∙ pairwise-placed (λ p x. p x) (λ j q. begin q (value n j q)) (sibling n) 0 queries
 
-  pub asked-rows : (n : ℕ) (values siblings : List E) → values ≡ values_in k o n →
-      siblings ≡ siblings_in k o n →
+  pub asked-rows : (n : ℕ) (values siblings : List E) → values ≡ values_in o n →
+      siblings ≡ siblings_in o n →
       map (λ p. p ∷ []) (asked_pairs (n + 1) queries values siblings)
       ≡ at_queries k o.params.now (run_of o) (λ j q. pair n j q ∷ [])
   asked-rows n values siblings vs ss =
@@ -157,19 +164,18 @@ module _ {F E I W IC ID IP IE WC WD WP WE : Type 0} {g : _} (k : Fields F E)
 
   -- what they fold into
   pub folds-of : (n : ℕ) (beta : E) (twiddles : List F) (values siblings : List E) →
-      o.log_max_height ≡ top k o.params.now (run_of o) →
       beta ≡ slice_index_or o.betas.now n k.extension.zero →
       twiddles ≡ map (round_twiddle k.field k.gen o.log_max_height n) queries → values ≡ values_in
-      k o n → siblings ≡ siblings_in k o n →
+      o n → siblings ≡ siblings_in o n →
       folds k.extension beta (map k.embed twiddles) (asked_pairs (n + 1) queries values siblings)
-      ≡ folds_in k o n
-  folds-of n beta twiddles values siblings height is_beta ts vs ss =
+      ≡ folds_in o n
+  folds-of n beta twiddles values siblings is_beta ts vs ss =
       let l = k.extension in
       let b = slice_index_or o.betas.now n l.zero in
       let rows = asked_pairs (n + 1) queries values siblings in
       ap (λ x. folds l x (map k.embed twiddles) rows) is_beta
       ∙ ap (λ xs. folds l b (map k.embed xs) rows)
-      (ts ∙ ap (λ h. map (round_twiddle k.field k.gen h n) queries) height
+      (ts ∙ ap (λ h. map (round_twiddle k.field k.gen h n) queries) o.drawn.top
       ∙ itself-placed (twiddle n) 0 queries)
       ∙ ap (λ xs. folds l b xs rows) (map-placed k.embed (λ j q. twiddle n q) 0 queries)
       ∙ ap (folds l b (placed (λ j q. k.embed (twiddle n q)) 0 queries))
@@ -178,68 +184,65 @@ module _ {F E I W IC ID IP IE WC WD WP WE : Type 0} {g : _} (k : Fields F E)
       ∙ sym (zip-placed (fold n) 0 queries)
 
   -- the codewords begin with that of the greatest height
-  module _ (height : o.log_max_height ≡ top k o.params.now (run_of o))
-      (some : 1 ≤ length (matrices k o.params.now (run_of o))) where
-    abbrev highest : ℕ
-    highest = top k o.params.now (run_of o)
+  abbrev highest : ℕ
+  highest = top k o.params.now (run_of o)
 
-    abbrev word_of : ℕ → List E
-    word_of h = at_queries k o.params.now (run_of o) (λ j q. folded k o.params.now (run_of o) j q h)
+  abbrev word_of : ℕ → List E
+  word_of h = at_queries k o.params.now (run_of o) (λ j q. folded k o.params.now (run_of o) j q h)
 
-    highest-last : words_below k o (suc highest) ≡ words_below k o highest
-        ++ (highest, word_of highest) ∷ []
-    highest-last = claimed-more (is_claimed k o.params.now (run_of o)) word_of highest
-        (top-claimed o.params.now.log_blowup (matrices k o.params.now (run_of o)) some)
+  highest-last : words_below o (suc highest) ≡ words_below o highest
+      ++ (highest, word_of highest) ∷ []
+  highest-last = claimed-more (is_claimed k o.params.now (run_of o)) word_of highest
+      (top-claimed o.params.now.log_blowup (matrices k o.params.now (run_of o)) o.drawn.some_matrix)
 
-    pub first-left : (front : List (ℕ × List E)) (w : ℕ × List E) → front ++ w ∷ []
-        ≡ words_below k o (suc highest) → front ≡ words_below k o (o.log_max_height - 0)
-    first-left front w e =
-        let same : highest ≡ o.log_max_height - 0 = omega (arith, height) in
-        (last-same front (words_below k o highest) w (highest, word_of highest)
-        (e ∙ highest-last)).0 ∙ ap (words_below k o) same
+  pub first-left : (front : List (ℕ × List E)) (w : ℕ × List E) → front ++ w ∷ []
+      ≡ words_below o (suc highest) → front ≡ words_below o (o.log_max_height - 0)
+  first-left front w e =
+      let same : highest ≡ o.log_max_height - 0 = omega (arith, o.drawn.top) in
+      (last-same front (words_below o highest) w (highest, word_of highest)
+      (e ∙ highest-last)).0 ∙ ap (words_below o) same
 
-    pub first-values : (front : List (ℕ × List E)) (w : ℕ × List E) → front ++ w ∷ []
-        ≡ words_below k o (suc highest) → w.1 ≡ values_in k o 0
-    first-values front w e =
-        ap (λ (v : ℕ × List E). v.1)
-        (last-same front (words_below k o highest) w (highest, word_of highest)
-        (e ∙ highest-last)).1
+  pub first-values : (front : List (ℕ × List E)) (w : ℕ × List E) → front ++ w ∷ []
+      ≡ words_below o (suc highest) → w.1 ≡ values_in o 0
+  first-values front w e =
+      ap (λ (v : ℕ × List E). v.1)
+      (last-same front (words_below o highest) w (highest, word_of highest)
+      (e ∙ highest-last)).1
 
-    pub first-there : (ws : List (ℕ × List E)) → length ws ≡ 0 →
-        ws ≡ words_below k o (suc highest) → ⊥
-    first-there ws none e =
-        omega (
-          arith,
-          none,
-          ap length (e ∙ highest-last),
-          length-append (words_below k o highest) ((highest, word_of highest) ∷ []),
-        )
+  pub first-there : (ws : List (ℕ × List E)) → length ws ≡ 0 →
+      ws ≡ words_below o (suc highest) → ⊥
+  first-there ws none e =
+      omega (
+        arith,
+        none,
+        ap length (e ∙ highest-last),
+        length-append (words_below o highest) ((highest, word_of highest) ∷ []),
+      )
 
   -- what is left, and what has joined, after the round before the height b
-  module _ (height : o.log_max_height ≡ top k o.params.now (run_of o)) (n : ℕ)
-      (enough : n + 2 ≤ o.log_max_height) where
+  module _ (n : ℕ) (lt : n < length o.betas.now) where
     abbrev due : ℕ
     due = o.log_max_height - 1 - n
 
     abbrev word : ℕ → List E
     word h = at_queries k o.params.now (run_of o) (λ j q. folded k o.params.now (run_of o) j q h)
 
-    waiting-now : words_below k o (o.log_max_height - n) ≡ words_below k o (suc due)
-    waiting-now = let e : o.log_max_height - n ≡ suc due = omega (arith, enough) in
-        ap (words_below k o) e
+    waiting-now : words_below o (o.log_max_height - n) ≡ words_below o (suc due)
+    waiting-now = let e : o.log_max_height - n ≡ suc due = omega (arith, round-within n lt) in
+        ap (words_below o) e
 
-    waiting-then : words_below k o due ≡ words_below k o (o.log_max_height - (n + 1))
-    waiting-then = let e : due ≡ o.log_max_height - (n + 1) = omega (arith, enough) in
-        ap (words_below k o) e
+    waiting-then : words_below o due ≡ words_below o (o.log_max_height - (n + 1))
+    waiting-then = let e : due ≡ o.log_max_height - (n + 1) = omega (arith, round-within n lt) in
+        ap (words_below o) e
 
     at-due : top k o.params.now (run_of o) - 1 - n ≡ due
-    at-due = ap (λ h. h - 1 - n) (sym height)
+    at-due = ap (λ h. h - 1 - n) (sym o.drawn.top)
 
-    values-then : values_in k o (suc n) ≡ values_in k o (n + 1)
-    values-then = let e : suc n ≡ n + 1 = omega arith in ap (values_in k o) e
+    values-then : values_in o (suc n) ≡ values_in o (n + 1)
+    values-then = let e : suc n ≡ n + 1 = omega arith in ap (values_in o) e
 
     pub length-due : (front : List (ℕ × List E)) (w : ℕ × List E) → front ++ w ∷ []
-        ≡ words_below k o (o.log_max_height - n) → w.0 ≡ due → length w.1 ≡ length queries
+        ≡ words_below o (o.log_max_height - n) → w.0 ≡ due → length w.1 ≡ length queries
     length-due front w e is_due =
         let of = λ (j q : ℕ). folded k o.params.now (run_of o) j q due in
         let facts = last-due (is_claimed k o.params.now (run_of o)) word due front w
@@ -247,58 +250,48 @@ module _ {F E I W IC ID IP IE WC WD WP WE : Type 0} {g : _} (k : Fields F E)
         ap length (facts.2 ∙ zip-placed of 0 queries) ∙ length-placed of 0 queries
 
     pub left-due : (front : List (ℕ × List E)) (w : ℕ × List E) → front ++ w ∷ []
-        ≡ words_below k o (o.log_max_height - n) → w.0 ≡ due →
-        front ≡ words_below k o (o.log_max_height - (n + 1))
+        ≡ words_below o (o.log_max_height - n) → w.0 ≡ due →
+        front ≡ words_below o (o.log_max_height - (n + 1))
     left-due front w e is_due =
         (last-due (is_claimed k o.params.now (run_of o)) word due front w (e ∙ waiting-now)
         is_due).1 ∙ waiting-then
 
     pub values-due : (front : List (ℕ × List E)) (w : ℕ × List E) → front ++ w ∷ []
-        ≡ words_below k o (o.log_max_height - n) → w.0 ≡ due →
-        pairwise k.extension.add (folds_in k o n) w.1 ≡ values_in k o (n + 1)
+        ≡ words_below o (o.log_max_height - n) → w.0 ≡ due →
+        pairwise k.extension.add (folds_in o n) w.1 ≡ values_in o (n + 1)
     values-due front w e is_due =
         let facts = last-due (is_claimed k o.params.now (run_of o)) word due front w
         (e ∙ waiting-now) is_due in
-        ap (pairwise k.extension.add (folds_in k o n)) facts.2 ∙ joined n due at-due facts.0
+        ap (pairwise k.extension.add (folds_in o n)) facts.2 ∙ joined n due at-due facts.0
         ∙ values-then
 
     pub left-later : (front : List (ℕ × List E)) (w : ℕ × List E) → front ++ w ∷ []
-        ≡ words_below k o (o.log_max_height - n) → w.0 ≢ due → front ++ w ∷ []
-        ≡ words_below k o (o.log_max_height - (n + 1))
+        ≡ words_below o (o.log_max_height - n) → w.0 ≢ due → front ++ w ∷ []
+        ≡ words_below o (o.log_max_height - (n + 1))
     left-later front w e later =
         (last-later (is_claimed k o.params.now (run_of o)) word due front w (e ∙ waiting-now)
         later).1 ∙ waiting-then
 
     pub values-later : RingLaws k.extension → (front : List (ℕ × List E)) (w : ℕ × List E) →
-        front ++ w ∷ [] ≡ words_below k o (o.log_max_height - n) → w.0 ≢ due → folds_in
-        k o n ≡ values_in k o (n + 1)
+        front ++ w ∷ [] ≡ words_below o (o.log_max_height - n) → w.0 ≢ due → folds_in
+        o n ≡ values_in o (n + 1)
     values-later laws front w e later =
         unjoined laws n due at-due
         (last-later (is_claimed k o.params.now (run_of o)) word due front w (e ∙ waiting-now)
         later).0 ∙ values-then
 
     pub left-none : (ws : List (ℕ × List E)) → length ws ≡ 0 →
-        ws ≡ words_below k o (o.log_max_height - n) →
-        ws ≡ words_below k o (o.log_max_height - (n + 1))
+        ws ≡ words_below o (o.log_max_height - n) →
+        ws ≡ words_below o (o.log_max_height - (n + 1))
     left-none [] none e =
         (none-left (is_claimed k o.params.now (run_of o)) word due (e ∙ waiting-now)).1
         ∙ waiting-then
     left-none (w ∷ ws) none e = absurd (omega (arith, none))
 
     pub values-none : RingLaws k.extension → (ws : List (ℕ × List E)) → length ws ≡ 0 →
-        ws ≡ words_below k o (o.log_max_height - n) → folds_in k o n ≡ values_in k o (n + 1)
+        ws ≡ words_below o (o.log_max_height - n) → folds_in o n ≡ values_in o (n + 1)
     values-none laws [] none e =
         unjoined laws n due at-due
         (none-left (is_claimed k o.params.now (run_of o)) word due (e ∙ waiting-now)).0
         ∙ values-then
     values-none laws (w ∷ ws) none e = absurd (omega (arith, none))
-
-module _ {F E I W IC ID IP IE WC WD WP WE : Type 0} {g : _} (k : Fields F E)
-    (o : OpenedRun F E I W IC ID IP IE WC WD WP WE g) (drawn : IsDrawn k o) where
-  -- a round is due only above the last codeword
-  pub round-within : (n : ℕ) → n < length o.betas.now → n + 3 ≤ o.log_max_height
-  round-within n lt =
-      let r = run_of o in
-      let all : length o.betas.now ≡ rounds k o.params.now r = drawn.betas in
-      let some = drawn.blowup in
-      omega (arith, lt, all, drawn.top, some)

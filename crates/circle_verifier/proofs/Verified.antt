@@ -11,10 +11,11 @@ use Rattle.circle_relation.specs.Statement.{BatchClaim, OpeningProof, Challenges
 use Rattle.circle_relation.specs.Accepts.{Fields, Run, Authenticates, HasRounds, HasInputs}
 use Rattle.circle_relation.specs.Accepts.{HasSiblings, HoldsWith, Accepts, matrices, top, rounds}
 use Rattle.circle_relation.specs.Reasons.{IsReason}
-use Rattle.circle_relation.specs.RunOf.{run_of, IsDrawn, IsOpened, Holds, Refuses}
+use Rattle.circle_verifier.specs.OfRun.{run_of, IsOpened, Holds, Refuses}
 use Rattle.circle_relation.specs.declared.error.InputError.{InputError}
-use Rattle.circle_relation.specs.declared.run.OpenedRun.{OpenedRun}
+use Rattle.circle_verifier.specs.declared.run.OpenedRun.{OpenedRun}
 use Rattle.circle_transcript.specs.Draw.{Drawn, claimed}
+use Rattle.circle_verifier.specs.Drawn.{IsDrawn}
 use Rattle.circle_verifier.specs.Tested.{IsTested}
 use Rattle.circle_relation.specs.Taken.{drawn_by}
 
@@ -37,6 +38,24 @@ module _ {F E M Com WordCom InputProof WordProof : Type 0} (k : Fields F E) (is_
           (λ o h. (h.0 ∙ sym count, h.1)) proof.rounds_opened t.siblings;
       final_poly = t.final_poly;
     }
+
+    pub is_drawn : {high : ℕ} {run : Run F E WordCom Com InputProof WordProof} →
+        ((t : E) → is_infinite t ≡ false → IsFinite k.extension t) →
+        IsTested k.two_adicity is_zero is_infinite p batches proof → high ≡ top k p r →
+        length drawn.betas ≡ rounds k p r → All (λ q. q < 2 ^ high) drawn.queries → run ≡ r →
+        IsDrawn k p run high
+    is_drawn {high = high} finite t at betas below same =
+        subst (λ x. IsDrawn k p x high) (sym same) (record {
+          top = at;
+          in_group = let low = t.in_group in omega (arith, at, low);
+          blowup = t.blowup;
+          some_matrix = t.some_matrix;
+          large = t.large;
+          finite = λ i d lt j e lt'. finite _ (t.finite i d lt j e lt');
+          shape = has_rounds t;
+          betas = betas;
+          below = below;
+        })
 
     pub accepted : {inputs : Authenticates Com F InputProof}
         {words : Authenticates WordCom E WordProof} →
@@ -149,62 +168,42 @@ challenges-told {S = S} {F = F} f told c d s t same =
     ∙ ap (λ x. record { alpha = d.alpha; bivariate = d.bivariate; betas = d.betas; queries = x })
     queries
 
-module _ {F E I W IC ID IP IE WC WD WP WE : Type 0} {g : Ghosts F} (k : Fields F E)
-    (o : OpenedRun F E I W IC ID IP IE WC WD WP WE g)
-    (p : FriParameters W) (r : Run F E WC IC IP WP) (params : o.params.now ≡ p) (run : run_of o ≡ r)
-  where
-    -- a run of which all is known that is tested before its challenges are drawn
-    pub is_drawn : o.log_max_height ≡ top k p r → o.log_max_height < k.two_adicity →
-        1 ≤ p.log_blowup → 1 ≤ length (matrices k p r) →
-        All (λ m. p.log_final_poly_len + 1 ≤ m.log_n) (matrices k p r) →
-        All (λ m. All (λ c. IsFinite k.extension c.point) m.claims) (matrices k p r) →
-        HasRounds k p r → length r.drawn.betas ≡ rounds k p r →
-        All (λ q. q < 2 ^ o.log_max_height) r.drawn.queries → IsDrawn k o
-    is_drawn high low blowup some large finite shape betas below =
-        let at = λ (P : FriParameters W → Run F E WC IC IP WP → Type 0) (h : P p r). subst
-        (λ q. P q (run_of o)) (sym params) (subst (P p) (sym run) h) in
-        record {
-          top = at (λ q x. o.log_max_height ≡ top k q x) high;
-          in_group = low;
-          blowup = at (λ q x. 1 ≤ q.log_blowup) blowup;
-          some_matrix = at (λ q x. 1 ≤ length (matrices k q x)) some;
-          large = at (λ q x. All (λ m. q.log_final_poly_len + 1 ≤ m.log_n) (matrices k q x)) large;
-          finite =
-              at
-              (λ q x. All (λ m. All (λ c. IsFinite k.extension c.point) m.claims)
-              (matrices k q x))
-              finite;
-          shape = at (λ q x. HasRounds k q x) shape;
-          betas = at (λ q x. length x.drawn.betas ≡ rounds k q x) betas;
-          below = at (λ q x. All (λ i. i < 2 ^ o.log_max_height) x.drawn.queries) below;
-        }
+-- what holds of a run, in terms of its parts
+module _ {F E I W IC ID IP IE WC WD WP WE : Type 0} {g : Ghosts F}
+    {over inputs ic ip ie words wc wp we : _}
+    (o : OpenedRun F E I W IC ID IP IE WC WD WP WE g over inputs ic ip ie words wc wp we)
+    (mmcs : I) (p : FriParameters W) (r : Run F E WC IC IP WP) (same : o.mmcs.now ≡ mmcs)
+    (params : o.params.now ≡ p) (run : run_of o ≡ r) where
+  moved : (P : I → FriParameters W → Run F E WC IC IP WP → Type 0) →
+      P o.mmcs.now o.params.now (run_of o) → P mmcs p r
+  moved P h =
+      subst (λ x. P mmcs p x) run
+      (subst (λ q. P mmcs q (run_of o)) params
+      (subst (λ x. P x o.params.now (run_of o)) same h))
 
-    module _ (mmcs : I) (same : o.mmcs.now ≡ mmcs) (inputs : I → Authenticates IC F IP)
-        (words : W → Authenticates WC E WP) where
-      -- what holds of the run, in terms of its parts
-      moved : (P : I → FriParameters W → Run F E WC IC IP WP → Type 0) →
-          P o.mmcs.now o.params.now (run_of o) → P mmcs p r
-      moved P h =
-          subst (λ x. P mmcs p x) run
-          (subst (λ q. P mmcs q (run_of o)) params
-          (subst (λ x. P x o.params.now (run_of o)) same h))
+  pub shape-of : IsOpened o → HasInputs over.fields p r
+  shape-of h = moved (λ x q y. HasInputs over.fields q y) h.shape
 
-      pub shape-of : IsOpened k o → HasInputs k p r
-      shape-of h = moved (λ x q y. HasInputs k q y) h.shape
+  pub claimed-of : IsOpened o → All (λ m. 1 ≤ length m.claims) (matrices over.fields p r)
+  claimed-of h = moved (λ x q y. All (λ m. 1 ≤ length m.claims) (matrices over.fields q y))
+      h.claimed
 
-      pub claimed-of : IsOpened k o → All (λ m. 1 ≤ length m.claims) (matrices k p r)
-      claimed-of h = moved (λ x q y. All (λ m. 1 ≤ length m.claims) (matrices k q y)) h.claimed
+  pub large-of : IsOpened o →
+      All (λ m. p.log_final_poly_len + 2 ≤ m.log_n) (matrices over.fields p r)
+  large-of h =
+      moved (λ x q y. All (λ m. q.log_final_poly_len + 2 ≤ m.log_n) (matrices over.fields q y))
+      h.large
 
-      pub large-of : IsOpened k o → All (λ m. p.log_final_poly_len + 2 ≤ m.log_n) (matrices k p r)
-      large-of h = moved (λ x q y. All (λ m. q.log_final_poly_len + 2 ≤ m.log_n) (matrices k q y))
-          h.large
+  pub holds-of : Holds o →
+      HoldsWith over.fields p r (inputs.authenticates mmcs) (words.authenticates p.mmcs)
+  holds-of h =
+      moved
+      (λ x q y. HoldsWith over.fields q y (inputs.authenticates x) (words.authenticates q.mmcs)) h
 
-      pub holds-of : Holds k o inputs words → HoldsWith k p r (inputs mmcs) (words p.mmcs)
-      holds-of h = moved (λ x q y. HoldsWith k q y (inputs x) (words q.mmcs)) h
-
-      pub reason-of : (input_memory : IE → Bool) (word_memory : WE → Bool)
-          (e : FriError WE (InputError IE WE)) →
-          Refuses k o inputs words input_memory word_memory e →
-          IsReason k p r (inputs mmcs) (words p.mmcs) input_memory word_memory e
-      reason-of input_memory word_memory e h =
-          moved (λ x q y. IsReason k q y (inputs x) (words q.mmcs) input_memory word_memory e) h
+  pub reason-of : (e : FriError WE (InputError IE WE)) → Refuses o e →
+      IsReason over.fields p r (inputs.authenticates mmcs) (words.authenticates p.mmcs)
+      inputs.is_memory words.is_memory e
+  reason-of e h =
+      moved
+      (λ x q y. IsReason over.fields q y (inputs.authenticates x) (words.authenticates q.mmcs)
+      inputs.is_memory words.is_memory e) h

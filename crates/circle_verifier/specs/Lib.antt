@@ -1,5 +1,7 @@
 pub mod Batches
+pub mod Drawn
 pub mod FirstLayer
+pub mod OfRun
 pub mod Refusals
 pub mod Rounds
 pub mod Shape

@@ -6,11 +6,11 @@ use Rattle.circle_field.specs.Circle.{Coordinates}
 use Rattle.circle_folding.specs.Fold.{fold_pair}
 use Rattle.circle_folding.specs.Chain.{round_twiddle, round_twiddles}
 use Rattle.circle_relation.specs.Statement.{Opened}
-use Rattle.circle_relation.specs.declared.run.OpenedRun.{OpenedRun}
-use Rattle.circle_relation.specs.Accepts.{Fields, Authenticates, top, is_claimed, at_queries}
+use Rattle.circle_verifier.specs.declared.run.OpenedRun.{OpenedRun}
+use Rattle.circle_relation.specs.Accepts.{top, is_claimed, at_queries}
 use Rattle.circle_relation.specs.Accepts.{folded, sibling_in, round_value, round_pair}
 use Rattle.circle_relation.specs.Accepts.{RoundAuthenticates}
-use Rattle.circle_relation.specs.RunOf.{run_of}
+use Rattle.circle_verifier.specs.OfRun.{fields_of, run_of}
 
 -- the queries' twiddles of `count` rounds from round n on, one round after another, for queries
 -- below 2^h, and their inverses
@@ -21,22 +21,25 @@ module _ {F : Type 0} (k : FieldOps F) (gen : ℕ → Coordinates F) (h : ℕ) (
   abbrev pub inverses_from : ℕ → ℕ → List F
   inverses_from n count = map k.inv (twiddles_from n count)
 
-module _ {F E I W IC ID IP IE WC WD WP WE : Type 0} {g : _} (k : Fields F E)
-    (o : OpenedRun F E I W IC ID IP IE WC WD WP WE g) where
+module _ {F E I W IC ID IP IE WC WD WP WE : Type 0} {g over inputs ic ip ie words wc wp we : _}
+    (o : OpenedRun F E I W IC ID IP IE WC WD WP WE g over inputs ic ip ie words wc wp we) where
   -- the queries' values in the codeword of a round, their siblings there, and the folds of their
   -- pairs
   abbrev pub values_in : ℕ → List E
   values_in n =
+      let k = fields_of o in
       let r = run_of o in
       at_queries k o.params.now r (λ j q. round_value k o.params.now r j q n)
 
   abbrev pub siblings_in : ℕ → List E
   siblings_in n =
+      let k = fields_of o in
       let r = run_of o in
       at_queries k o.params.now r (λ j q. sibling_in k o.params.now r j q n)
 
   abbrev pub folds_in : ℕ → List E
   folds_in n =
+      let k = fields_of o in
       let r = run_of o in
       let beta = slice_index_or r.drawn.betas n k.extension.zero in
       let twiddle = λ (q : ℕ). k.embed (round_twiddle k.field k.gen (top k o.params.now r) n q) in
@@ -46,15 +49,18 @@ module _ {F E I W IC ID IP IE WC WD WP WE : Type 0} {g : _} (k : Fields F E)
   -- for each claimed height below 2^b the queries' values that join there
   abbrev pub words_below : ℕ → List (ℕ × List E)
   words_below b =
+      let k = fields_of o in
       let r = run_of o in
       map (λ h. (h, at_queries k o.params.now r (λ j q. folded k o.params.now r j q h)))
       (filter (is_claimed k o.params.now r) (range_with_len 0 b))
 
   -- the pairs of a round authenticate
-  abbrev pub HasRoundOf : (W → Authenticates WC E WP) → ℕ → Type 0
-  HasRoundOf words n =
+  abbrev pub HasRound : ℕ → Type 0
+  HasRound n =
+      let k = fields_of o in
       let r = run_of o in
       let opened = zip r.proof.commitments r.proof.rounds_opened in
       let rounds = zip (range_with_len 0 (length opened)) opened in
       (d : ℕ × (WC × Opened (List E) WP)) → n < length rounds →
-      RoundAuthenticates k o.params.now r (words o.params.now.mmcs) (slice_index_or rounds n d)
+      RoundAuthenticates k o.params.now r (words.authenticates o.params.now.mmcs)
+      (slice_index_or rounds n d)

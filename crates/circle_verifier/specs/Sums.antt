@@ -10,10 +10,10 @@ use Rattle.circle_relation.specs.Statement.{PointClaim, MatrixClaim, BatchClaim,
 use Rattle.circle_relation.specs.Statement.{all_matrices}
 use Rattle.circle_relation.specs.Sums.{AreApartAt, AreApartFrom, Adds, all_claims_at, claims_at}
 use Rattle.circle_relation.specs.Sums.{on_row}
-use Rattle.circle_relation.specs.Accepts.{Fields, top, at_queries, point_among}
+use Rattle.circle_relation.specs.Accepts.{top, at_queries, point_among}
 use Rattle.circle_relation.specs.Accepts.{reduced_at, claims_of}
-use Rattle.circle_relation.specs.RunOf.{run_of}
-use Rattle.circle_relation.specs.declared.run.OpenedRun.{OpenedRun}
+use Rattle.circle_verifier.specs.OfRun.{fields_of, run_of}
+use Rattle.circle_verifier.specs.declared.run.OpenedRun.{OpenedRun}
 use Rattle.circle_verifier.specs.declared.reduced.Word.{Word}
 
 -- at the query in place j: the claims on one matrix, each with its row
@@ -50,22 +50,24 @@ module _ {F E : Type 0} {g : _} (l : FieldOps E) (embed : F → E) (word : Word 
       (after : E) × Adds l embed alpha (map coordinates word.points.now) none
       (all_claims_at word.log_blowup word.log_height pairs) l.one after old new
 
--- the codeword of height 2^h at the queries: their points, and the sums of the quotients of their
--- rows
-abbrev pub word_at : {F E I W IC ID IP IE WC WD WP WE : Type 0} {g : _} →
-    Fields F E → OpenedRun F E I W IC ID IP IE WC WD WP WE g → ℕ
-    → ℕ × (List (Coordinates F) × List E)
-word_at k o h =
-    let p = o.params.now in
-    let r = run_of o in
-    let point = λ (j q : ℕ). point_among k p r j q h in
-    let sum = λ (j q : ℕ). reduced_at k p r (point j q) (claims_of k p r h j) in
-    (h, (at_queries k p r point, at_queries k p r sum))
+module _ {F E I W IC ID IP IE WC WD WP WE : Type 0} {g over inputs ic ip ie words wc wp we : _}
+    (o : OpenedRun F E I W IC ID IP IE WC WD WP WE g over inputs ic ip ie words wc wp we)
+    (h : ℕ) where
+  -- the codeword of height 2^h at the queries: their points, and the sums of the quotients of
+  -- their rows
+  abbrev pub word_at : ℕ × (List (Coordinates F) × List E)
+  word_at =
+      let k = fields_of o in
+      let p = o.params.now in
+      let r = run_of o in
+      let point = λ (j q : ℕ). point_among k p r j q h in
+      let sum = λ (j q : ℕ). reduced_at k p r (point j q) (claims_of k p r h j) in
+      (h, (at_queries k p r point, at_queries k p r sum))
 
--- none of its points is claimed of a matrix of that height
-abbrev pub IsApartIn : {F E I W IC ID IP IE WC WD WP WE : Type 0} {g : _} →
-    Fields F E → OpenedRun F E I W IC ID IP IE WC WD WP WE g → ℕ → Type 0
-IsApartIn k o h =
-    let point = query_point k.field k.gen h (top k o.params.now (run_of o)) in
-    AreApartAt k.extension k.embed o.params.now.log_blowup h (map point o.indices.now)
-    (all_matrices (run_of o).batches)
+  -- none of its points is claimed of a matrix of that height
+  abbrev pub IsApartIn : Type 0
+  IsApartIn =
+      let k = fields_of o in
+      let point = query_point k.field k.gen h (top k o.params.now (run_of o)) in
+      AreApartAt k.extension k.embed o.params.now.log_blowup h (map point o.indices.now)
+      (all_matrices (run_of o).batches)

@@ -3,12 +3,12 @@ ghost use Rattle.std.specs.Prelude.{◌≡◌, ◌==◌, IfOk};
 ghost use Rattle.std.specs.List.{list_any};
 ghost use Rattle.circle_domain.specs.Domain.{log_size};
 ghost use Rattle.circle_relation.specs.Accepts.{is_claimed};
-ghost use Rattle.circle_relation.specs.RunOf.{run_of, IsDrawn, heights_of};
+ghost use Rattle.circle_verifier.specs.OfRun.{fields_of, run_of, heights_of};
 
+use crate::run::OpenedRun;
 use circle_commit::{CommitmentOpening, MatrixOpening, Mmcs};
 use circle_domain::CircleDomain;
 use circle_field::{ComplexExtendable, ExtensionField};
-use circle_relation::{OpenedRun, OverCircle};
 use std::alloc::{AllocError, Global};
 
 // Whether a matrix of a batch is claimed on a domain of `2^log_n` points.
@@ -37,37 +37,33 @@ pub(crate) fn has_domain<F: ComplexExtendable, E, Com>(
     false
 }
 
-// Whether a matrix of `2^log_height` rows is claimed.
-fn is_claimed<
+impl<
     Val: ComplexExtendable,
     EF: ExtensionField<Val>,
     InputMmcs: Mmcs<Val>,
     FriMmcs: Mmcs<EF>,
->(run: &OpenedRun<Val, EF, InputMmcs, FriMmcs>, log_height: usize) -> bool
-    ensures { let k = ⟦<EF as OverCircle<Val>>⟧.fields in
-        result ≡ is_claimed k run.now.params.now (run_of run.now) log_height }
-{
-    let log_blowup = run.params.log_blowup;
-    log_height >= log_blowup && has_domain(run.claims, log_height - log_blowup)
-}
-
-/// The binary logarithms of all heights that matrices are claimed of, ascending, each once.
-///
-/// Requires a run that was tested before its challenges were drawn. Fails where memory is refused.
-pub fn claimed_heights<
-    Val: ComplexExtendable,
-    EF: ExtensionField<Val>,
-    InputMmcs: Mmcs<Val>,
-    FriMmcs: Mmcs<EF>,
->(alloc: Global, run: &OpenedRun<Val, EF, InputMmcs, FriMmcs>) -> Result<Vec<usize>, AllocError>
-    requires drawn { IsDrawn ⟦<EF as OverCircle<Val>>⟧.fields run.now }
-    ensures { IfOk result (λ v. v.items ≡ heights_of ⟦<EF as OverCircle<Val>>⟧.fields run.now) }
-{
-    let mut heights = Vec::new(alloc);
-    for log_height in 0..=run.log_max_height {
-        if is_claimed(run, log_height) {
-            heights.push(log_height)?;
-        }
+> OpenedRun<'_, Val, EF, InputMmcs, FriMmcs> {
+    // Whether a matrix of `2^log_height` rows is claimed.
+    fn is_claimed(&self, log_height: usize) -> bool
+        ensures { result
+            ≡ is_claimed (fields_of self.now) self.now.params.now (run_of self.now) log_height }
+    {
+        let log_blowup = self.params.log_blowup;
+        log_height >= log_blowup && has_domain(self.claims, log_height - log_blowup)
     }
-    Ok(heights)
+
+    /// The binary logarithms of all heights that matrices are claimed of, ascending, each once.
+    ///
+    /// Fails where memory is refused.
+    pub fn claimed_heights(&self, alloc: Global) -> Result<Vec<usize>, AllocError>
+        ensures { IfOk result (λ v. v.items ≡ heights_of self.now) }
+    {
+        let mut heights = Vec::new(alloc);
+        for log_height in 0..=self.log_max_height {
+            if self.is_claimed(log_height) {
+                heights.push(log_height)?;
+            }
+        }
+        Ok(heights)
+    }
 }

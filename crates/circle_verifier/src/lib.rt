@@ -10,23 +10,28 @@
 //! returns the refusal of the first witness that doesn't pass.
 //!
 //! Once the challenges of a run are drawn, by the relation of `circle_relation`, for every lawful
-//! field, extension and schemes:
+//! field, extension and schemes, each step is a method of a value that carries what is known so
+//! far, as a ghost field:
 //!
-//! - `claimed_heights` returns the heights that matrices are claimed of, ascending.
-//! - `validate_input_shape` is Ok only where the proof's lists have the lengths that the claims and
-//!   the queries fix, each matrix is claimed at a point, and each leaves something to fold
-//!   (`opened`).
-//! - `authenticate_inputs` is Ok only where the rows of each batch authenticate at the queries
+//! - `OpenedRun` has what was tested before the challenges were drawn, and what is known of them
+//!   (`drawn`). `claimed_heights` returns the heights that matrices are claimed of, ascending.
+//!   `authenticate_inputs` is Ok only where the rows of each batch authenticate at the queries
 //!   (`shown`).
-//! - `reduced_words` returns for each height the sums of the quotients of all claims at the queries
-//!   (`words`), and is Ok only where no claimed point is that of a query (`apart`).
-//! - `fold_first_layer` returns the pairs of the first layer at the queries (`pairs`), and what
-//!   they fold into (`folded`). `authenticate_first_layer` is Ok only where these pairs
+//! - `OpenedRun::checked` makes a `CheckedRun`: the proof's lists have the lengths that the claims
+//!   and the queries fix, each matrix is claimed at a point, and each leaves something to fold
+//!   (`opened`). It has the heights (`claimed`).
+//! - `CheckedRun::reduced_words` makes `ReducedWords`: for each height the sums of the quotients of
+//!   all claims at the queries (`sums`). It is Ok only where no claimed point is that of a query
+//!   (`apart`).
+//! - `ReducedWords::fold_first_layer` makes a `FirstLayer`: its pairs at the queries (`asked`), and
+//!   what they fold into (`folds`). `authenticate_first_layer` is Ok only where these pairs
 //!   authenticate (`shown`).
-//! - `fold_rounds` folds the queries' values round by round, joining each height where it is due
-//!   (`values`), and is Ok only where the pairs of all rounds authenticate (`shown`).
-//! - `check_final` is Ok only where each query ends in the value of the final polynomial (`ended`).
-//! - `verify_queries` is all of these: Ok only where a run meets what the relation says of it
+//! - `FirstLayer::fold_rounds` folds the queries' values round by round, joining each height where
+//!   it is due, into `LastValues` (`ends`). It is Ok only where the pairs of all rounds
+//!   authenticate (`shown`).
+//! - `LastValues::check_final` is Ok only where each query ends in the value of the final
+//!   polynomial (`ended`).
+//! - `OpenedRun::verify` is all of these: Ok only where a run meets what the relation says of it
 //!   (`opened`, `holds`). `verify_drawn` makes the run of claims, a proof and what was drawn, and
 //!   is Ok only where the relation accepts it (`accepted`).
 //! - Whatever these refuse, the relation has a reason for, or memory was refused (`refused`).
@@ -34,8 +39,10 @@
 //! Its files:
 //!
 //! - In `specs/`, `Refusals`: the tests before the seeding, in order; `Tests`: these over the
-//!   records; `Tested`: what they establish. `Replay`: what is drawn. `Shape`, `Batches`, `Sums`,
-//!   `FirstLayer`, `Rounds`: definitions of private contracts.
+//!   records; `Tested`: what they establish. `Replay`: what is drawn. `Drawn`: what is known of a
+//!   run once its challenges are drawn. `OfRun`: the relation's parts, and the lists that calls
+//!   hand on, over an `OpenedRun`. `Shape`, `Batches`, `Sums`, `FirstLayer`, `Rounds`: definitions
+//!   of private contracts.
 //! - In `proofs/`, `Domains`, `HeightTests`, `ShapeTests`, `Seeding`, `Finite`, `Claimed`: the
 //!   tests. `Items`, `Replayed`: the transcript. `Sizes`, `Lengths`, `Points`, `Rows`: shapes and
 //!   rows. Those that begin with `Reduced`, `FirstLayer` and `Rounds`, and `LastWord`: each part.
@@ -43,6 +50,7 @@
 #![tactic(auto)]
 
 pub mod batches;
+pub mod checked;
 pub mod first_layer;
 pub mod heights;
 pub mod last_word;
@@ -50,15 +58,14 @@ pub mod queries;
 pub mod reduced;
 pub mod replay;
 pub mod rounds;
+pub mod run;
 pub mod shape;
 pub mod verifier;
 
-pub use batches::authenticate_inputs;
-pub use first_layer::{authenticate_first_layer, fold_first_layer};
-pub use heights::claimed_heights;
-pub use last_word::check_final;
-pub use queries::{verify_drawn, verify_queries};
-pub use reduced::reduced_words;
+pub use checked::CheckedRun;
+pub use first_layer::FirstLayer;
+pub use last_word::LastValues;
+pub use queries::verify_drawn;
+pub use reduced::ReducedWords;
 pub use replay::replay_transcript;
-pub use rounds::fold_rounds;
-pub use shape::validate_input_shape;
+pub use run::OpenedRun;

@@ -3,58 +3,68 @@ ghost use Rattle.std.specs.Prelude.{◌≡◌, ◌<◌, ◌^◌, length, All, On
 ghost use Rattle.circle_relation.specs.StatementOf.{batch_claims};
 ghost use Rattle.circle_relation.specs.Accepts.{Accepts};
 ghost use Rattle.circle_relation.specs.Reasons.{IsReason};
-ghost use Rattle.circle_relation.specs.RunOf.{proof_of, run_of, IsDrawn, IsOpened};
-ghost use Rattle.circle_relation.specs.RunOf.{Holds, Refuses};
+ghost use Rattle.circle_relation.specs.RunOf.{proof_of, run_with};
+ghost use Rattle.circle_verifier.specs.OfRun.{run_of, IsOpened, Holds, Refuses};
 ghost use Rattle.circle_verifier.specs.Tests.{claimed_height};
 ghost use Rattle.circle_verifier.specs.Tested.{rounds_due, IsTestedOver};
 ghost use Rattle.circle_relation.specs.Taken.{challenges_of};
-ghost use Rattle.circle_relation.specs.RunOf.{run_with};
 
-use crate::batches::authenticate_inputs;
-use crate::first_layer::{authenticate_first_layer, fold_first_layer};
-use crate::heights::claimed_heights;
-use crate::last_word::check_final;
-use crate::reduced::reduced_words;
-use crate::rounds::fold_rounds;
-use crate::shape::validate_input_shape;
+use crate::checked::CheckedRun;
+use crate::run::OpenedRun;
 use circle_commit::{CommitmentOpening, FriParameters, Mmcs};
 use circle_domain::CircleDomain;
 use circle_field::{ComplexExtendable, ExtensionField};
-use circle_relation::{CirclePcsProof, OpenedRun, OverCircle, VerifierError};
+use circle_relation::{CirclePcsProof, OverCircle, VerifierError};
 use circle_transcript::CircleDraws;
 use std::alloc::Global;
 
-/// Refuses a run by the first of these that fails: the lists of the proof have the lengths that are
-/// due, each batch's rows authenticate, no claimed point is that of a query, the pairs of the first
-/// layer and of each round authenticate, and each query ends in the value of the final polynomial.
-///
-/// Requires a run that was tested before its challenges were drawn. Fails with `Memory` where
-/// memory is refused.
-#[tactic(auto, unfolding(circle_relation::specs::Reasons::IsReason))]
-pub fn verify_queries<
+impl<
     Val: ComplexExtendable,
     EF: ExtensionField<Val>,
     InputMmcs: Mmcs<Val>,
     FriMmcs: Mmcs<EF>,
->(
-    alloc: Global,
-    run: &OpenedRun<Val, EF, InputMmcs, FriMmcs>,
-) -> Result<(), VerifierError<InputMmcs::Error, FriMmcs::Error>>
-    requires drawn { IsDrawn ⟦<EF as OverCircle<Val>>⟧.fields run.now }
-    ensures opened { OnOk result (IsOpened ⟦<EF as OverCircle<Val>>⟧.fields run.now) }
-    ensures holds { OnOk result (Holds ⟦<EF as OverCircle<Val>>⟧.fields run.now
-        InputMmcs.authenticates FriMmcs.authenticates) }
-    ensures refused { IfErr result (Refuses ⟦<EF as OverCircle<Val>>⟧.fields run.now
-        InputMmcs.authenticates FriMmcs.authenticates InputMmcs.is_memory FriMmcs.is_memory) }
-{
-    let heights = claimed_heights(alloc, run)?;
-    validate_input_shape(run, &heights)?;
-    authenticate_inputs(alloc, run)?;
-    let words = reduced_words(alloc, run, &heights)?;
-    let (pairs, folded) = fold_first_layer(alloc, run, words)?;
-    authenticate_first_layer(alloc, run, &heights, &pairs)?;
-    let values = fold_rounds(alloc, run, folded)?;
-    check_final(run, &values)
+> OpenedRun<'_, Val, EF, InputMmcs, FriMmcs> {
+    /// Refuses a run by the first of these that fails: the lists of the proof have the lengths that
+    /// are due, each batch's rows authenticate, no claimed point is that of a query, the pairs of
+    /// the first layer and of each round authenticate, and each query ends in the value of the
+    /// final polynomial.
+    ///
+    /// Fails with `Memory` where memory is refused.
+    pub fn verify(
+        self,
+        alloc: Global,
+    ) -> Result<(), VerifierError<InputMmcs::Error, FriMmcs::Error>>
+        ensures opened { OnOk result (IsOpened self.entry) }
+        ensures holds { OnOk result (Holds self.entry) }
+        ensures refused { IfErr result (Refuses self.entry) }
+    {
+        let checked = self.checked(alloc)?;
+        checked.verify(alloc)
+    }
+}
+
+impl<
+    Val: ComplexExtendable,
+    EF: ExtensionField<Val>,
+    InputMmcs: Mmcs<Val>,
+    FriMmcs: Mmcs<EF>,
+> CheckedRun<'_, Val, EF, InputMmcs, FriMmcs> {
+    /// Refuses a run, once its lists' lengths are tested, as [`OpenedRun::verify`] does.
+    #[tactic(auto, unfolding(circle_relation::specs::Reasons::IsReason))]
+    pub fn verify(
+        &self,
+        alloc: Global,
+    ) -> Result<(), VerifierError<InputMmcs::Error, FriMmcs::Error>>
+        ensures holds { OnOk result (Holds self.now.run) }
+        ensures refused { IfErr result (Refuses self.now.run) }
+    {
+        self.run.authenticate_inputs(alloc)?;
+        let reduced = self.reduced_words(alloc)?;
+        let layer = reduced.fold_first_layer(alloc)?;
+        layer.authenticate_first_layer(alloc)?;
+        let last = layer.fold_rounds(alloc)?;
+        last.check_final()
+    }
 }
 
 // The run of claims and a proof, with what was drawn.
@@ -79,7 +89,6 @@ fn opened_run<
         ≡ rounds_due params.now (batch_claims claims.now) }
     requires count { length draws.now.indices.items ≡ params.now.num_queries }
     requires below { All (λ q. q < 2 ^ log_max_height) draws.now.indices.items }
-    ensures drawn { IsDrawn ⟦<EF as OverCircle<Val>>⟧.fields result }
     ensures mmcs { result.mmcs.now ≡ mmcs.now }
     ensures params { result.params.now ≡ params.now }
     ensures run { run_of result ≡ run_with claims.now proof.now (challenges_of draws.now) }
@@ -97,7 +106,7 @@ fn opened_run<
     }
 }
 
-/// Refuses a run that was tested, once its challenges are drawn, as [`verify_queries`] does.
+/// Refuses a run that was tested, once its challenges are drawn, as [`OpenedRun::verify`] does.
 ///
 /// Requires the binary logarithm of the greatest height that is claimed, a challenge for each
 /// round, as many queries as the parameters say, and queries below that height.
@@ -131,5 +140,5 @@ pub fn verify_drawn<
         InputMmcs.is_memory FriMmcs.is_memory) }
 {
     let run = opened_run(mmcs, params, claims, proof, log_max_height, draws);
-    verify_queries(alloc, &run)
+    run.verify(alloc)
 }

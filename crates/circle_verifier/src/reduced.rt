@@ -8,21 +8,38 @@ ghost use Rattle.circle_folding.specs.Quotient.{ArePowers};
 ghost use Rattle.circle_folding.specs.Queries.{HaveWidth};
 ghost use Rattle.circle_relation.specs.Statement.{log_height, all_matrices};
 ghost use Rattle.circle_relation.specs.StatementOf.{point_claim, matrix_claims, batch_claims};
-ghost use Rattle.circle_relation.specs.Accepts.{AreApart};
-ghost use Rattle.circle_relation.specs.RunOf.{run_of, IsDrawn, IsOpened, heights_of};
-ghost use Rattle.circle_relation.specs.RunOf.{reduced_words, queried, Refuses};
+ghost use Rattle.circle_verifier.specs.OfRun.{run_of, reduced_words, AreApart, Refuses};
+ghost use Rattle.circle_relation.specs.RunOf.{queried};
 ghost use Rattle.circle_relation.specs.Sums.{HasRowsOf};
 ghost use Rattle.circle_verifier.specs.Sums.{AddsAll, AddsAtQueries, AddsRows, claims_on};
 ghost use Rattle.circle_verifier.specs.Sums.{IsApartFrom, IsApartFromRows};
 ghost use Rattle.circle_verifier.specs.Sums.{word_at, IsApartIn};
 
+use crate::checked::CheckedRun;
 use circle_commit::{CommitmentOpening, FriError, MatrixOpening, Mmcs, PointOpening};
 use circle_domain::CircleDomain;
-use circle_field::{ComplexExtendable, ExtensionField, Field};
+use circle_field::{ComplexExtendable, ExtensionField, Field, Operations};
 use circle_folding::{Claim, MatrixRows, add_quotients, query_points};
 use circle_point::Point;
-use circle_relation::{InputError, OpenedRun, OverCircle, QueriedWord, VerifierError};
+use circle_relation::{InputError, OverCircle, QueriedWord, VerifierError};
 use std::alloc::{AllocError, Global};
+
+/// The reduced codewords of a run, at the queries.
+#[derive(Drop)]
+pub struct ReducedWords<
+    'a,
+    Val: Operations,
+    EF: OverCircle<Val>,
+    InputMmcs: Mmcs<Val>,
+    FriMmcs: Mmcs<EF>,
+> {
+    /// The run.
+    pub run: &'a CheckedRun<'a, Val, EF, InputMmcs, FriMmcs>,
+    /// For each claimed height the points of the queries, and the sums of quotients there.
+    pub words: Vec<QueriedWord<Val, EF>>,
+    /// What the codewords are.
+    pub ghost sums: { map queried words.items ≡ reduced_words run.now.run },
+}
 
 // The codeword of one height, at the queries.
 #[derive(Drop)]
@@ -110,40 +127,6 @@ fn add_batch<Val: ComplexExtendable, EF: ExtensionField<Val>>(
     Some(after)
 }
 
-// Adds to the sums the quotients of all rows under the claims on matrices of the codeword's height.
-// `None` exactly where a claimed point is that of a query.
-fn add_batches<
-    Val: ComplexExtendable,
-    EF: ExtensionField<Val>,
-    InputMmcs: Mmcs<Val>,
-    FriMmcs: Mmcs<EF>,
->(sums: &mut [EF], word: &Word<Val, EF>, run: &OpenedRun<Val, EF, InputMmcs, FriMmcs>) -> Option<()>
-    requires points { length word.now.points.now ≡ length sums.old }
-    requires queries { length run.now.indices.now ≡ length sums.old }
-    requires blowup { word.now.log_blowup ≡ run.now.params.now.log_blowup }
-    requires opened { IsOpened ⟦<EF as OverCircle<Val>>⟧.fields run.now }
-    requires enough { All (λ m. All (λ c. length c.values < length word.now.powers.now) m.claims)
-        (all_matrices (run_of run.now).batches) }
-    requires finite { All (λ m. All (λ c. IsFinite EF.ops c.point) m.claims)
-        (all_matrices (run_of run.now).batches) }
-    requires small { All (λ m. log_height word.now.log_blowup m ≤ 62)
-        (all_matrices (run_of run.now).batches) }
-    ensures none { IsNone result →
-        IsApartFromRows EF.ops EF.embed word.now (all_matrices (run_of run.now).batches) → ⊥ }
-    ensures apart { IfSome result (λ _.
-        IsApartFromRows EF.ops EF.embed word.now (all_matrices (run_of run.now).batches)) }
-    ensures sums { IfSome result (λ _. AddsAll EF.ops EF.embed word.now (origin Val.ops)
-        (zip (run_of run.now).batches (run_of run.now).proof.inputs) sums.old sums.new) }
-{
-    let openings = &run.proof.fri_proof.input_openings.input_openings;
-    let mut offset = EF::ONE;
-    for (i, batch) in run.claims.iter().enumerate() {
-        let opened = &openings[i].opened_values;
-        offset = add_batch(sums, offset, word, opened, &batch.matrices)?;
-    }
-    Some(())
-}
-
 // The greatest number of values of a claim: of one matrix, of a batch, of all batches. A list that
 // is stored has fewer than 2^63 entries.
 fn width_of_matrix<EF: Copy>(claims: &[PointOpening<EF>]) -> usize
@@ -195,86 +178,99 @@ fn powers_for<Val: ComplexExtendable, EF: ExtensionField<Val>, Com>(
     EF::powers(alloc, alpha, width + 1)
 }
 
-// The codeword of one height at the queries.
-fn reduced_word<
+impl<
     Val: ComplexExtendable,
     EF: ExtensionField<Val>,
     InputMmcs: Mmcs<Val>,
     FriMmcs: Mmcs<EF>,
->(
-    alloc: Global,
-    run: &OpenedRun<Val, EF, InputMmcs, FriMmcs>,
-    powers: &[EF],
-    log_height: usize,
-) -> Result<QueriedWord<Val, EF>, VerifierError<InputMmcs::Error, FriMmcs::Error>>
-    requires drawn { IsDrawn ⟦<EF as OverCircle<Val>>⟧.fields run.now }
-    requires opened { IsOpened ⟦<EF as OverCircle<Val>>⟧.fields run.now }
-    requires positive { 1 ≤ log_height }
-    requires within { log_height ≤ run.now.log_max_height }
-    requires powers { ArePowers EF.ops run.now.alpha powers.now }
-    requires enough { All (λ m. All (λ c. length c.values < length powers.now) m.claims)
-        (all_matrices (run_of run.now).batches) }
-    ensures word { IfOk result (λ word. queried word
-        ≡ word_at ⟦<EF as OverCircle<Val>>⟧.fields run.now log_height) }
-    ensures apart { OnOk result
-        (IsApartIn ⟦<EF as OverCircle<Val>>⟧.fields run.now log_height) }
-    ensures refused { IfErr result (Refuses ⟦<EF as OverCircle<Val>>⟧.fields run.now
-        InputMmcs.authenticates FriMmcs.authenticates InputMmcs.is_memory FriMmcs.is_memory) }
-{
-    let points = query_points(alloc, log_height, run.log_max_height, run.indices)?;
-    let mut values = vec![in alloc; EF::ZERO; run.indices.len()]?;
-    let log_blowup = run.params.log_blowup;
-    let word = Word {
-        log_height,
-        log_blowup,
-        powers,
-        points: &points,
-    };
-    match add_batches(&mut values, &word, run) {
-        Some(()) => Ok(QueriedWord {
-            log_height,
-            points,
-            values,
-        }),
-        None => Err(FriError::InputError(InputError::OpeningPointMatchesQueryPoint)),
+> CheckedRun<'_, Val, EF, InputMmcs, FriMmcs> {
+    // Adds to the sums the quotients of all rows under the claims on matrices of the codeword's
+    // height. `None` exactly where a claimed point is that of a query.
+    fn add_batches(&self, sums: &mut [EF], word: &Word<Val, EF>) -> Option<()>
+        requires points { length word.now.points.now ≡ length sums.old }
+        requires queries { length self.now.run.indices.now ≡ length sums.old }
+        requires blowup { word.now.log_blowup ≡ self.now.run.params.now.log_blowup }
+        requires enough { All (λ m. All (λ c. length c.values < length word.now.powers.now)
+            m.claims) (all_matrices (run_of self.now.run).batches) }
+        ensures none { IsNone result → IsApartFromRows EF.ops EF.embed word.now
+            (all_matrices (run_of self.now.run).batches) → ⊥ }
+        ensures apart { IfSome result (λ _. IsApartFromRows EF.ops EF.embed word.now
+            (all_matrices (run_of self.now.run).batches)) }
+        ensures sums { let r = run_of self.now.run in IfSome result (λ _. AddsAll EF.ops EF.embed
+            word.now (origin Val.ops) (zip r.batches r.proof.inputs) sums.old sums.new) }
+    {
+        let openings = &self.run.proof.fri_proof.input_openings.input_openings;
+        let mut offset = EF::ONE;
+        for (i, batch) in self.run.claims.iter().enumerate() {
+            let opened = &openings[i].opened_values;
+            offset = add_batch(sums, offset, word, opened, &batch.matrices)?;
+        }
+        Some(())
     }
-}
 
-/// For each claimed height the points of the queries, and at each of them the sum of the quotients
-/// of its rows under the claims on matrices of that height, in order, each times the power of the
-/// batching challenge of twice the number of columns that are claimed before it. Refuses a claim at
-/// the point of a query, by `OpeningPointMatchesQueryPoint`.
-///
-/// Requires a run that was tested before its challenges were drawn, with lists of fitting lengths,
-/// and the heights that are claimed. Fails with `Memory` where memory is refused.
-pub fn reduced_words<
-    Val: ComplexExtendable,
-    EF: ExtensionField<Val>,
-    InputMmcs: Mmcs<Val>,
-    FriMmcs: Mmcs<EF>,
->(
-    alloc: Global,
-    run: &OpenedRun<Val, EF, InputMmcs, FriMmcs>,
-    heights: &[usize],
-) -> Result<Vec<QueriedWord<Val, EF>>, VerifierError<InputMmcs::Error, FriMmcs::Error>>
-    requires drawn { IsDrawn ⟦<EF as OverCircle<Val>>⟧.fields run.now }
-    requires opened { IsOpened ⟦<EF as OverCircle<Val>>⟧.fields run.now }
-    requires heights { heights.now ≡ heights_of ⟦<EF as OverCircle<Val>>⟧.fields run.now }
-    ensures words { let k = ⟦<EF as OverCircle<Val>>⟧.fields in
-        IfOk result (λ words. map queried words.items ≡ reduced_words k run.now) }
-    ensures apart { let k = ⟦<EF as OverCircle<Val>>⟧.fields in
-        OnOk result (AreApart k run.now.params.now (run_of run.now)) }
-    ensures refused { IfErr result (Refuses ⟦<EF as OverCircle<Val>>⟧.fields run.now
-        InputMmcs.authenticates FriMmcs.authenticates InputMmcs.is_memory FriMmcs.is_memory) }
-{
-    let powers = powers_for(alloc, run.alpha, run.claims)?;
-    let mut words = Vec::with_capacity(alloc, heights.len())?;
-    for log_height in heights {
-        let word = reduced_word(alloc, run, &powers, *log_height)?;
-        match words.push(word) {
-            Ok(()) => {}
-            Err(_) => return Err(FriError::Memory),
+    // The codeword of one height at the queries.
+    fn reduced_word(
+        &self,
+        alloc: Global,
+        powers: &[EF],
+        log_height: usize,
+    ) -> Result<QueriedWord<Val, EF>, VerifierError<InputMmcs::Error, FriMmcs::Error>>
+        requires positive { 1 ≤ log_height }
+        requires within { log_height ≤ self.now.run.log_max_height }
+        requires powers { ArePowers EF.ops self.now.run.alpha powers.now }
+        requires enough { All (λ m. All (λ c. length c.values < length powers.now) m.claims)
+            (all_matrices (run_of self.now.run).batches) }
+        ensures word { IfOk result (λ word. queried word ≡ word_at self.now.run log_height) }
+        ensures apart { OnOk result (IsApartIn self.now.run log_height) }
+        ensures refused { IfErr result (Refuses self.now.run) }
+    {
+        let run = &self.run;
+        let points = query_points(alloc, log_height, run.log_max_height, run.indices)?;
+        let mut values = vec![in alloc; EF::ZERO; run.indices.len()]?;
+        let log_blowup = run.params.log_blowup;
+        let word = Word {
+            log_height,
+            log_blowup,
+            powers,
+            points: &points,
+        };
+        match self.add_batches(&mut values, &word) {
+            Some(()) => Ok(QueriedWord {
+                log_height,
+                points,
+                values,
+            }),
+            None => Err(FriError::InputError(InputError::OpeningPointMatchesQueryPoint)),
         }
     }
-    Ok(words)
+
+    /// For each claimed height the points of the queries, and at each of them the sum of the
+    /// quotients of its rows under the claims on matrices of that height, in order, each times the
+    /// power of the batching challenge of twice the number of columns that are claimed before it.
+    /// Refuses a claim at the point of a query, by `OpeningPointMatchesQueryPoint`.
+    ///
+    /// Fails with `Memory` where memory is refused.
+    pub fn reduced_words(
+        &self,
+        alloc: Global,
+    ) -> Result<
+        ReducedWords<'_, Val, EF, InputMmcs, FriMmcs>,
+        VerifierError<InputMmcs::Error, FriMmcs::Error>,
+    >
+        ensures run { IfOk result (λ reduced. reduced.run.now ≡ self.now) }
+        ensures apart { OnOk result (AreApart self.now.run) }
+        ensures refused { IfErr result (Refuses self.now.run) }
+    {
+        let powers = powers_for(alloc, self.run.alpha, self.run.claims)?;
+        let heights = self.heights.as_slice();
+        let mut words = Vec::with_capacity(alloc, heights.len())?;
+        for log_height in heights {
+            let word = self.reduced_word(alloc, &powers, *log_height)?;
+            match words.push(word) {
+                Ok(()) => {}
+                Err(_) => return Err(FriError::Memory),
+            }
+        }
+        Ok(ReducedWords { run: self, words })
+    }
 }

@@ -4,66 +4,167 @@ ghost use Rattle.std.specs.Prelude.{slice_index_or, OnOk, IfOk, IfErr};
 ghost use Rattle.circle_commit.specs.DotProduct.{pairwise};
 ghost use Rattle.circle_folding.specs.Chain.{round_twiddles};
 ghost use Rattle.circle_verifier.specs.Rounds.{inverses_from, values_in, siblings_in, folds_in};
-ghost use Rattle.circle_verifier.specs.Rounds.{words_below, HasRoundOf};
-ghost use Rattle.circle_relation.specs.RunOf.{IsDrawn, IsOpened, folded_words, joining_of};
-ghost use Rattle.circle_relation.specs.RunOf.{last_values, HasRoundsOf, Refuses};
+ghost use Rattle.circle_verifier.specs.Rounds.{words_below, HasRound};
+ghost use Rattle.circle_verifier.specs.OfRun.{RoundsAuthenticate, Refuses};
+ghost use Rattle.circle_relation.specs.RunOf.{joining_of};
 
+use crate::first_layer::FirstLayer;
+use crate::last_word::LastValues;
+use crate::run::OpenedRun;
 use circle_commit::{Dimensions, FriError, Mmcs};
 use circle_field::{ComplexExtendable, ExtensionField, Field, batch_multiplicative_inverse};
 use circle_folding::{
     add_each, first_x_twiddles, fold_query_values_with_inv_twiddles, next_x_twiddles, query_pairs,
     without_bits,
 };
-use circle_relation::{OpenedRun, OverCircle, QueryValues, VerifierError};
+use circle_relation::{QueryValues, VerifierError};
 use std::alloc::{AllocError, Global};
 
-/// Folds the queries' values through all rounds, beginning with those of the greatest height: in
-/// each round the pairs at the queries authenticate, are folded, and the height that is due joins
-/// them. Returns the values in the last codeword. Refuses a round whose pairs don't authenticate,
-/// by `CommitPhaseMmcsError`.
-///
-/// Requires a run that was tested before its challenges were drawn, with lists of fitting lengths,
-/// and what the first layer folds into. Each round is verified once, for all queries, and the
-/// twiddles of all rounds are inverted together. Fails with `Memory` where memory is refused.
-#[tactic(auto, unfolding(circle_relation::specs::Reasons::IsReason))]
-pub fn fold_rounds<
+impl<
+    'a,
     Val: ComplexExtendable,
     EF: ExtensionField<Val>,
     InputMmcs: Mmcs<Val>,
     FriMmcs: Mmcs<EF>,
->(
-    alloc: Global,
-    run: &OpenedRun<Val, EF, InputMmcs, FriMmcs>,
-    folded: Vec<QueryValues<EF>>,
-) -> Result<Vec<EF>, VerifierError<InputMmcs::Error, FriMmcs::Error>>
-    requires drawn { IsDrawn ⟦<EF as OverCircle<Val>>⟧.fields run.now }
-    requires opened { IsOpened ⟦<EF as OverCircle<Val>>⟧.fields run.now }
-    requires folded { let k = ⟦<EF as OverCircle<Val>>⟧.fields in
-        map joining_of folded.items ≡ folded_words k run.now }
-    ensures values { let k = ⟦<EF as OverCircle<Val>>⟧.fields in
-        IfOk result (λ values. values.items ≡ last_values k run.now) }
-    ensures shown { OnOk result (HasRoundsOf ⟦<EF as OverCircle<Val>>⟧.fields run.now
-        InputMmcs.authenticates FriMmcs.authenticates) }
-    ensures refused { IfErr result (Refuses ⟦<EF as OverCircle<Val>>⟧.fields run.now
-        InputMmcs.authenticates FriMmcs.authenticates InputMmcs.is_memory FriMmcs.is_memory) }
-{
-    let mut waiting = folded;
-    // The greatest height is one of those that are claimed, so there is a last one.
-    let Some(first) = waiting.pop() else {
-        return Ok(Vec::new(alloc));
-    };
-    let mut values = first.values;
-    let (rounds, top) = (run.betas.len(), run.log_max_height);
-    let inverses = inverse_round_twiddles::<Val>(alloc, top, rounds, run.indices)?;
-    let mut later = inverses.as_slice();
-    let mut left = waiting.as_slice();
-    for round in 0..rounds {
-        let (inv_twiddles, rest) = later.split_at(run.indices.len());
-        fold_round(alloc, run, round, inv_twiddles, &mut values)?;
-        left = join(run, round, left, &mut values);
-        later = rest;
+> FirstLayer<'a, Val, EF, InputMmcs, FriMmcs> {
+    /// Folds the queries' values through all rounds, beginning with those of the greatest height:
+    /// in each round the pairs at the queries authenticate, are folded, and the height that is due
+    /// joins them. Returns the values in the last codeword. Refuses a round whose pairs don't
+    /// authenticate, by `CommitPhaseMmcsError`.
+    ///
+    /// Each round is verified once, for all queries, and the twiddles of all rounds are inverted
+    /// together. Fails with `Memory` where memory is refused.
+    #[tactic(auto, unfolding(circle_relation::specs::Reasons::IsReason))]
+    pub fn fold_rounds(
+        self,
+        alloc: Global,
+    ) -> Result<
+        LastValues<'a, Val, EF, InputMmcs, FriMmcs>,
+        VerifierError<InputMmcs::Error, FriMmcs::Error>,
+    >
+        ensures run { IfOk result (λ last. last.run.now ≡ self.entry.run.now) }
+        ensures shown { OnOk result (RoundsAuthenticate self.entry.run.now.run) }
+        ensures refused { IfErr result (Refuses self.entry.run.now.run) }
+    {
+        let FirstLayer { run, folded, .. } = self;
+        let mut waiting = folded;
+        // The greatest height is one of those that are claimed, so there is a last one.
+        let Some(first) = waiting.pop() else {
+            let values = Vec::new(alloc);
+            return Ok(LastValues { run, values });
+        };
+        let mut values = first.values;
+        let (rounds, top) = (run.run.betas.len(), run.run.log_max_height);
+        let inverses = inverse_round_twiddles::<Val>(alloc, top, rounds, run.run.indices)?;
+        let mut later = inverses.as_slice();
+        let mut left = waiting.as_slice();
+        for round in 0..rounds {
+            let (inv_twiddles, rest) = later.split_at(run.run.indices.len());
+            run.run.fold_round(alloc, round, inv_twiddles, &mut values)?;
+            left = run.run.join(round, left, &mut values);
+            later = rest;
+        }
+        Ok(LastValues { run, values })
     }
-    Ok(values)
+}
+
+impl<
+    Val: ComplexExtendable,
+    EF: ExtensionField<Val>,
+    InputMmcs: Mmcs<Val>,
+    FriMmcs: Mmcs<EF>,
+> OpenedRun<'_, Val, EF, InputMmcs, FriMmcs> {
+    // Folds the queries' values in the codeword of a round, where their pairs authenticate.
+    #[tactic(auto, unfolding(circle_relation::specs::Reasons::IsReason))]
+    fn fold_round(
+        &self,
+        alloc: Global,
+        round: usize,
+        inv_twiddles: &[Val],
+        values: &mut [EF],
+    ) -> Result<(), VerifierError<InputMmcs::Error, FriMmcs::Error>>
+        requires round { round < length self.now.betas.now }
+        requires inverses { inv_twiddles.now ≡ map Val.ops.inv (round_twiddles Val.ops
+            Val.generators self.now.log_max_height round self.now.indices.now) }
+        requires values { values.old ≡ values_in self.now round }
+        ensures folded { OnOk result (values.new ≡ folds_in self.now round) }
+        ensures shown { OnOk result (HasRound self.now round) }
+        ensures refused { IfErr result (Refuses self.now) }
+    {
+        let opening = &self.proof.fri_proof.commit_phase_openings[round];
+        let siblings = first_entries(alloc, &opening.sibling_values)?;
+        self.authenticate_round(alloc, round, values, &siblings)?;
+        let (beta, bits) = (self.betas[round], round + 1);
+        fold_query_values_with_inv_twiddles(
+            beta,
+            bits,
+            self.indices,
+            inv_twiddles,
+            values,
+            &siblings,
+        );
+        Ok(())
+    }
+
+    // Refuses a round of which the pairs don't authenticate.
+    #[tactic(auto, unfolding(circle_relation::specs::Reasons::IsReason))]
+    fn authenticate_round(
+        &self,
+        alloc: Global,
+        round: usize,
+        values: &[EF],
+        siblings: &[EF],
+    ) -> Result<(), VerifierError<InputMmcs::Error, FriMmcs::Error>>
+        requires round { round < length self.now.betas.now }
+        requires values { values.now ≡ values_in self.now round }
+        requires siblings { siblings.now ≡ siblings_in self.now round }
+        ensures shown { OnOk result (HasRound self.now round) }
+        ensures refused { IfErr result (Refuses self.now) }
+    {
+        let pairs = query_pairs(alloc, round + 1, self.indices, values, siblings)?;
+        let places = without_bits(alloc, self.indices, round + 2)?;
+        let shape = Dimensions {
+            width: 2,
+            height: 1 << (self.log_max_height - 2 - round),
+        };
+        let commitment = &self.proof.fri_proof.commit_phase_commits[round];
+        let proof = &self.proof.fri_proof.commit_phase_openings[round].opening_proof;
+        let verdict = self
+            .params
+            .mmcs
+            .verify_multi_batch(alloc, commitment, &[shape], &places, &pairs, proof);
+        match verdict {
+            Ok(()) => Ok(()),
+            Err(error) if FriMmcs::is_memory(&error) => Err(FriError::Memory),
+            Err(error) => Err(FriError::CommitPhaseMmcsError(error)),
+        }
+    }
+
+    // Adds to the values that a round folds into those that join them at their height, where it is
+    // claimed; returns the codewords that are left.
+    fn join<'b>(
+        &self,
+        round: usize,
+        waiting: &'b [QueryValues<EF>],
+        values: &mut [EF],
+    ) -> &'b [QueryValues<EF>]
+        requires round { round < length self.now.betas.now }
+        requires waiting { map joining_of waiting.now
+            ≡ words_below self.now (self.now.log_max_height - round) }
+        requires values { values.old ≡ folds_in self.now round }
+        ensures left { map joining_of result.now
+            ≡ words_below self.now (self.now.log_max_height - (round + 1)) }
+        ensures values { values.new ≡ values_in self.now (round + 1) }
+    {
+        let height = self.log_max_height - 1 - round;
+        match waiting.split_last() {
+            Some((word, rest)) if word.log_height == height => {
+                add_each(values, &word.values);
+                rest
+            }
+            _ => waiting,
+        }
+    }
 }
 
 // The inverses of the queries' twiddles in the rounds, round after round, by one inversion.
@@ -86,116 +187,6 @@ fn inverse_round_twiddles<F: ComplexExtendable>(
         next_x_twiddles(round, indices, &mut of_round);
     }
     batch_multiplicative_inverse(alloc, &twiddles)
-}
-
-// Folds the queries' values in the codeword of a round, where their pairs authenticate.
-#[tactic(auto, unfolding(circle_relation::specs::Reasons::IsReason))]
-fn fold_round<
-    Val: ComplexExtendable,
-    EF: ExtensionField<Val>,
-    InputMmcs: Mmcs<Val>,
-    FriMmcs: Mmcs<EF>,
->(
-    alloc: Global,
-    run: &OpenedRun<Val, EF, InputMmcs, FriMmcs>,
-    round: usize,
-    inv_twiddles: &[Val],
-    values: &mut [EF],
-) -> Result<(), VerifierError<InputMmcs::Error, FriMmcs::Error>>
-    requires drawn { IsDrawn ⟦<EF as OverCircle<Val>>⟧.fields run.now }
-    requires round { round < length run.now.betas.now }
-    requires inverses { inv_twiddles.now ≡ map Val.ops.inv (round_twiddles Val.ops Val.generators
-        run.now.log_max_height round run.now.indices.now) }
-    requires values { values.old ≡ values_in ⟦<EF as OverCircle<Val>>⟧.fields run.now round }
-    ensures folded { let k = ⟦<EF as OverCircle<Val>>⟧.fields in
-        OnOk result (values.new ≡ folds_in k run.now round) }
-    ensures shown { let k = ⟦<EF as OverCircle<Val>>⟧.fields in
-        OnOk result (HasRoundOf k run.now FriMmcs.authenticates round) }
-    ensures refused { IfErr result (Refuses ⟦<EF as OverCircle<Val>>⟧.fields run.now
-        InputMmcs.authenticates FriMmcs.authenticates InputMmcs.is_memory FriMmcs.is_memory) }
-{
-    let opening = &run.proof.fri_proof.commit_phase_openings[round];
-    let siblings = first_entries(alloc, &opening.sibling_values)?;
-    authenticate_round(alloc, run, round, values, &siblings)?;
-    let (beta, bits) = (run.betas[round], round + 1);
-    fold_query_values_with_inv_twiddles(beta, bits, run.indices, inv_twiddles, values, &siblings);
-    Ok(())
-}
-
-// Refuses a round of which the pairs don't authenticate.
-#[tactic(auto, unfolding(circle_relation::specs::Reasons::IsReason))]
-fn authenticate_round<
-    Val: ComplexExtendable,
-    EF: ExtensionField<Val>,
-    InputMmcs: Mmcs<Val>,
-    FriMmcs: Mmcs<EF>,
->(
-    alloc: Global,
-    run: &OpenedRun<Val, EF, InputMmcs, FriMmcs>,
-    round: usize,
-    values: &[EF],
-    siblings: &[EF],
-) -> Result<(), VerifierError<InputMmcs::Error, FriMmcs::Error>>
-    requires drawn { IsDrawn ⟦<EF as OverCircle<Val>>⟧.fields run.now }
-    requires round { round < length run.now.betas.now }
-    requires values { values.now ≡ values_in ⟦<EF as OverCircle<Val>>⟧.fields run.now round }
-    requires siblings { siblings.now ≡ siblings_in ⟦<EF as OverCircle<Val>>⟧.fields run.now round }
-    ensures shown { let k = ⟦<EF as OverCircle<Val>>⟧.fields in
-        OnOk result (HasRoundOf k run.now FriMmcs.authenticates round) }
-    ensures refused { IfErr result (Refuses ⟦<EF as OverCircle<Val>>⟧.fields run.now
-        InputMmcs.authenticates FriMmcs.authenticates InputMmcs.is_memory FriMmcs.is_memory) }
-{
-    let pairs = query_pairs(alloc, round + 1, run.indices, values, siblings)?;
-    let places = without_bits(alloc, run.indices, round + 2)?;
-    let shape = Dimensions {
-        width: 2,
-        height: 1 << (run.log_max_height - 2 - round),
-    };
-    let commitment = &run.proof.fri_proof.commit_phase_commits[round];
-    let proof = &run.proof.fri_proof.commit_phase_openings[round].opening_proof;
-    let verdict = run
-        .params
-        .mmcs
-        .verify_multi_batch(alloc, commitment, &[shape], &places, &pairs, proof);
-    match verdict {
-        Ok(()) => Ok(()),
-        Err(error) if FriMmcs::is_memory(&error) => Err(FriError::Memory),
-        Err(error) => Err(FriError::CommitPhaseMmcsError(error)),
-    }
-}
-
-// Adds to the values that a round folds into those that join them at their height, where it is
-// claimed; returns the codewords that are left.
-fn join<
-    'a,
-    Val: ComplexExtendable,
-    EF: ExtensionField<Val>,
-    InputMmcs: Mmcs<Val>,
-    FriMmcs: Mmcs<EF>,
->(
-    run: &OpenedRun<Val, EF, InputMmcs, FriMmcs>,
-    round: usize,
-    waiting: &'a [QueryValues<EF>],
-    values: &mut [EF],
-) -> &'a [QueryValues<EF>]
-    requires drawn { IsDrawn ⟦<EF as OverCircle<Val>>⟧.fields run.now }
-    requires round { round < length run.now.betas.now }
-    requires waiting { let k = ⟦<EF as OverCircle<Val>>⟧.fields in
-        map joining_of waiting.now ≡ words_below k run.now (run.now.log_max_height - round) }
-    requires values { values.old ≡ folds_in ⟦<EF as OverCircle<Val>>⟧.fields run.now round }
-    ensures left { let k = ⟦<EF as OverCircle<Val>>⟧.fields in
-        map joining_of result.now ≡ words_below k run.now (run.now.log_max_height - (round + 1)) }
-    ensures values { let k = ⟦<EF as OverCircle<Val>>⟧.fields in
-        values.new ≡ values_in k run.now (round + 1) }
-{
-    let height = run.log_max_height - 1 - round;
-    match waiting.split_last() {
-        Some((word, rest)) if word.log_height == height => {
-            add_each(values, &word.values);
-            rest
-        }
-        _ => waiting,
-    }
 }
 
 // The first entry of each row.

@@ -1,0 +1,196 @@
+use Rattle.std.proofs.Common.{◌≡◌, ℕ, ◌<◌, ◌∙◌, refl, sym, ap, subst, length, map, arith}
+use Rattle.std.proofs.Common.{slice_index_or, replicate, lt_of_le_of_lt, le_trans, le_of_lt}
+use Rattle.std.specs.Prelude.{zip}
+use Rattle.std.specs.Vec.{with_items}
+use Rattle.std.proofs.lemmas.List.{length-map, length-replicate, get_or-replicate, with_items_is}
+use Rattle.std.proofs.lemmas.Result.{IfOk-from_err}
+use Rattle.circle_field.specs.Circle.{origin}
+use Rattle.circle_point.specs.Point.{coordinates}
+use Rattle.circle_commit.specs.declared.error.FriError.TheVariants.{Memory}
+use Rattle.circle_folding.specs.Queries.{query_point}
+use Rattle.circle_relation.specs.Statement.{all_matrices}
+use Rattle.circle_relation.specs.Accepts.{top, at_queries, point_among}
+use Rattle.circle_relation.specs.Reasons.{IsReason}
+use Rattle.circle_verifier.specs.OfRun.{fields_of, run_of, Refuses}
+use Rattle.circle_relation.specs.Sums.{all_claims_at, AreApartAt, Adds}
+use Rattle.circle_relation.proofs.ReducedSums.{adds-all}
+use Rattle.circle_verifier.proofs.ReducedValues.{handed_on, points-at, sums-at, apart-at}
+use Rattle.circle_verifier.proofs.checked.CheckedRun.reduced_word.Goals as goal
+
+pub query_points-requires-clause-positive : goal.query_points-requires-clause-positive
+query_points-requires-clause-positive g c = c.requires.positive
+
+pub query_points-requires-clause-within : goal.query_points-requires-clause-within
+query_points-requires-clause-within g c = c.requires.within
+
+pub query_points-requires-clause-in_group : goal.query_points-requires-clause-in_group
+query_points-requires-clause-in_group g c = lt_of_le_of_lt c.requires.within
+    c.args.self.now.run.drawn.in_group
+
+pub query_points-requires-clause-small : goal.query_points-requires-clause-small
+query_points-requires-clause-small g c =
+    le_trans (le_of_lt c.args.self.now.run.drawn.in_group) g.met.Val.ComplexExtendable.at_most_62
+
+pub query_points-requires-clause-below : goal.query_points-requires-clause-below
+query_points-requires-clause-below g c = c.args.self.now.run.drawn.below
+
+pub returns-in_err-points-clause-word : goal.returns-in_err-points-clause-word
+returns-in_err-points-clause-word g c =
+    IfOk-from_err c.from_residual.result _ c.from_residual.ensures.0
+
+pub returns-in_err-points-clause-apart : goal.returns-in_err-points-clause-apart
+returns-in_err-points-clause-apart g c =
+    IfOk-from_err c.from_residual.result _ c.from_residual.ensures.0
+
+pub returns-in_err-points-clause-refused : goal.returns-in_err-points-clause-refused
+unfolding IsReason
+returns-in_err-points-clause-refused g c =
+    handed_on c.from_residual.result Memory
+    (Refuses c.args.self.now.run) c.from_residual.ensures.1 tt
+
+pub returns-in_err-values-clause-word : goal.returns-in_err-values-clause-word
+returns-in_err-values-clause-word g c =
+    IfOk-from_err c.from_residual-in_err-values.result _ c.from_residual-in_err-values.ensures.0
+
+pub returns-in_err-values-clause-apart : goal.returns-in_err-values-clause-apart
+returns-in_err-values-clause-apart g c =
+    IfOk-from_err c.from_residual-in_err-values.result _ c.from_residual-in_err-values.ensures.0
+
+pub returns-in_err-values-clause-refused : goal.returns-in_err-values-clause-refused
+unfolding IsReason
+returns-in_err-values-clause-refused g c =
+    handed_on c.from_residual-in_err-values.result Memory
+    (Refuses c.args.self.now.run) c.from_residual-in_err-values.ensures.1
+    tt
+
+pub add_batches-requires-clause-points : goal.add_batches-requires-clause-points
+add_batches-requires-clause-points g c =
+    let run = c.args.self.now.run in
+    let k = fields_of run in
+    let r = run_of run in
+    let h = c.args.log_height in
+    let queries = run.indices.now in
+    let ps = c.in_ok-points.points.items in
+    let of_points : map coordinates ps ≡ map
+    (query_point k.field k.gen h (top k run.params.now r)) queries =
+    c.in_ok-points.ensures ∙ ap (λ n. map (query_point k.field k.gen h n) queries)
+    run.drawn.top in
+    let listed : map coordinates c.deref.result.now ≡ map
+    (query_point k.field k.gen h (top k run.params.now r)) queries =
+    ap (map coordinates) c.deref.ensures.value ∙ of_points in
+    let zeros : c.in_ok-values.values.items ≡ replicate (length queries) c.ZERO.result =
+    c.in_ok-values.ensures.items_if_clones_equal (λ y same. g.met.EF.Field.clone_law _ _ same) in
+    let old = c.deref_mut.result.now in
+    let is_old : old ≡ replicate (length queries) c.ZERO.result = c.deref_mut.ensures.value
+    ∙ zeros in
+    let counted : length old ≡ length queries = ap length is_old
+    ∙ length-replicate (length queries) c.ZERO.result in
+    sym (length-map c.deref.result.now coordinates) ∙ ap length listed
+    ∙ length-map queries (query_point k.field k.gen h (top k run.params.now r))
+    ∙ sym counted
+
+pub add_batches-requires-clause-queries : goal.add_batches-requires-clause-queries
+add_batches-requires-clause-queries g c =
+    let queries = c.args.self.now.run.indices.now in
+    let zeros : c.in_ok-values.values.items ≡ replicate (length queries) c.ZERO.result =
+    c.in_ok-values.ensures.items_if_clones_equal (λ y same. g.met.EF.Field.clone_law _ _ same) in
+    sym (ap length (c.deref_mut.ensures.value ∙ zeros)
+    ∙ length-replicate (length queries) c.ZERO.result)
+
+pub add_batches-requires-clause-blowup : goal.add_batches-requires-clause-blowup
+add_batches-requires-clause-blowup g c = refl
+
+pub add_batches-requires-clause-enough : goal.add_batches-requires-clause-enough
+add_batches-requires-clause-enough g c = c.requires.enough
+
+pub returns-in-Some-clause-word : goal.returns-in-Some-clause-word
+returns-in-Some-clause-word g c =
+    let run = c.args.self.now.run in
+    let k = fields_of run in
+    let r = run_of run in
+    let h = c.args.log_height in
+    let queries = run.indices.now in
+    let ps = c.in_ok-points.points.items in
+    let of_points : map coordinates ps ≡ map
+    (query_point k.field k.gen h (top k run.params.now r)) queries =
+    c.in_ok-points.ensures ∙ ap (λ n. map (query_point k.field k.gen h n) queries)
+    run.drawn.top in
+    let listed : map coordinates c.deref.result.now ≡ map
+    (query_point k.field k.gen h (top k run.params.now r)) queries =
+    ap (map coordinates) c.deref.ensures.value ∙ of_points in
+    let zeros : c.in_ok-values.values.items ≡ replicate (length queries) c.ZERO.result =
+    c.in_ok-values.ensures.items_if_clones_equal (λ y same. g.met.EF.Field.clone_law _ _ same) in
+    let old = c.deref_mut.result.now in
+    let is_old : old ≡ replicate (length queries) c.ZERO.result = c.deref_mut.ensures.value
+    ∙ zeros in
+    let counted : length old ≡ length queries = ap length is_old
+    ∙ length-replicate (length queries) c.ZERO.result in
+    let l = k.extension in
+    let new = c.add_batches.new.sums in
+    let none = origin g.Val.Operations.ops in
+    let claims =
+    all_claims_at run.params.now.log_blowup h (zip r.batches r.proof.inputs) in
+    let added = c.in-Some.ensures.sums run.alpha c.requires.powers in
+    let adds : Adds l k.embed run.alpha (map coordinates c.deref.result.now) none claims
+    l.one added.0 old new = added.1 in
+    let zero : (j : ℕ) → j < length queries → slice_index_or old j l.zero ≡ l.zero =
+    λ j lt. ap (λ xs. slice_index_or xs j l.zero) is_old
+    ∙ get_or-replicate (length queries) j c.ZERO.result l.zero lt ∙ c.ZERO.ensures
+    ∙ g.met.EF.Field.zero_law in
+    let sums = sums-at k run.params.now r h new (map coordinates c.deref.result.now) none
+    (adds.counted ∙ counted) listed
+    (λ j lt. adds-all g.EF.Operations.laws.ring k.embed run.alpha
+    (map coordinates c.deref.result.now) none claims added.0 old new adds j
+    (omega (arith, lt, adds.counted)) (zero j (omega (arith, lt, adds.counted, counted)))) in
+    let stored : (with_items c.in_ok-values.values new).items ≡ new =
+    with_items_is c.in_ok-values.values new
+    (omega (arith, adds.counted, c.deref_mut.ensures.len)) in
+    ap (λ xs. (h, (map coordinates ps, xs))) stored
+    ∙ ap (λ xs. (h, (xs, new))) (of_points ∙ sym (points-at k run.params.now r h))
+    ∙ ap
+    (λ ss. (
+      h,
+      (
+        at_queries k run.params.now r
+            (λ j q. point_among k run.params.now r j q h),
+        ss,
+      ),
+    )) sums
+
+pub returns-in-Some-clause-apart : goal.returns-in-Some-clause-apart
+returns-in-Some-clause-apart g c =
+    let run = c.args.self.now.run in
+    let k = fields_of run in
+    let r = run_of run in
+    let h = c.args.log_height in
+    let queries = run.indices.now in
+    let ps = c.in_ok-points.points.items in
+    let of_points : map coordinates ps ≡ map
+    (query_point k.field k.gen h (top k run.params.now r)) queries =
+    c.in_ok-points.ensures ∙ ap (λ n. map (query_point k.field k.gen h n) queries)
+    run.drawn.top in
+    let listed : map coordinates c.deref.result.now ≡ map
+    (query_point k.field k.gen h (top k run.params.now r)) queries =
+    ap (map coordinates) c.deref.ensures.value ∙ of_points in
+    subst (λ xs. AreApartAt k.extension k.embed run.params.now.log_blowup h xs
+    (all_matrices r.batches)) listed c.in-Some.ensures.apart
+
+pub returns-in-None-clause-refused : goal.returns-in-None-clause-refused
+unfolding IsReason
+returns-in-None-clause-refused g c = λ apart.
+    let run = c.args.self.now.run in
+    let k = fields_of run in
+    let r = run_of run in
+    let h = c.args.log_height in
+    let queries = run.indices.now in
+    let ps = c.in_ok-points.points.items in
+    let of_points : map coordinates ps ≡ map
+    (query_point k.field k.gen h (top k run.params.now r)) queries =
+    c.in_ok-points.ensures ∙ ap (λ n. map (query_point k.field k.gen h n) queries)
+    run.drawn.top in
+    let listed : map coordinates c.deref.result.now ≡ map
+    (query_point k.field k.gen h (top k run.params.now r)) queries =
+    ap (map coordinates) c.deref.ensures.value ∙ of_points in
+    c.in-None.ensures.none refl
+    (subst (λ xs. AreApartAt k.extension k.embed run.params.now.log_blowup h xs
+    (all_matrices r.batches)) (sym listed) (apart-at k run.params.now r h apart))

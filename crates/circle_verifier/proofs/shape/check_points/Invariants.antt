@@ -1,8 +1,0 @@
-use Rattle.std.proofs.Common.{take}
-use Rattle.std.specs.Prelude.{All}
-use Rattle.circle_verifier.proofs.Points.{Claimed}
-use Rattle.circle_verifier.proofs.shape.check_points.Given as goal
-
--- the matrices of the batches so far are claimed
-abbrev pub invariant-loop-batch : goal.invariant-loop-batch
-invariant-loop-batch g l = All (λ b. All Claimed b.matrices.items) (take l.batch l.run.claims.now)
