@@ -1,5 +1,6 @@
 -- Ratios that were made, found by their point.
-use Rattle.std.specs.Prelude.{◌≡◌, ℕ, ◌+◌, ◌<◌, length, slice_index_or, List, [], ◌∷◌, ◌++◌, map}
+use Rattle.std.specs.Prelude.{◌≡◌, ℕ, ◌+◌, ◌-◌, ◌^◌, ◌<◌, length, slice_index_or, List, [], ◌∷◌}
+use Rattle.std.specs.Prelude.{◌++◌, map}
 use Rattle.std.specs.Prelude.{All, true, Option, Some, None, IfSome}
 use Rattle.std.specs.Borrow.{Bor}
 use Rattle.std.specs.List.{Any}
@@ -10,10 +11,12 @@ use Rattle.std.proofs.lemmas.List.{get_or_default}
 use Rattle.circle_field.specs.Field.{FieldOps}
 use Rattle.circle_field.specs.Circle.{Coordinates}
 use Rattle.circle_point.specs.Projective.{from_line}
-use Rattle.circle_codewords.specs.Ratios.{vanishing_ratio, AreRatiosOf}
-use Rattle.circle_codewords.specs.Values.{weights_for}
 use Rattle.circle_domain.specs.declared.lagrange.LagrangeWeights.{LagrangeWeights}
-use Rattle.circle_codewords.specs.declared.values.PointWeights.{PointWeights}
+use Rattle.circle_codewords.specs.OfMatrices.{AreWeightsFor, IsFor, fields_at}
+use Rattle.circle_codewords.specs.Ratios.{vanishing_ratio, AreRatiosOf}
+use Rattle.circle_codewords.specs.Values.{AreWeightsOf}
+use Rattle.circle_codewords.specs.declared.matrix.MatrixAtPoints.{MatrixAtPoints}
+use Rattle.circle_codewords.specs.declared.matrix.PointWeights.{PointWeights}
 use Rattle.circle_codewords.specs.declared.ratios.PointRatios.{PointRatios}
 
 module _ {X : Type 0} (P : X → Type 0) where
@@ -47,24 +50,10 @@ module _ {E : Type 0} where
       sym found.4.1 ∙ subst (AreRatiosOf l embed points) found.3 (right found.0 found.1 found.2)
       ∙ ap (λ t. map (vanishing_ratio l embed (from_line l t)) points) found.4.0
 
-  -- and so of weights
-  pub weights-of : (o : Option (Bor (LagrangeWeights E))) (xs : List (PointWeights E)) (h : ℕ)
-      (p : E) → is_some o ≡ true →
-      IfSome o (λ found. Any (λ w. (w.log_height ≡ h) × (w.point ≡ p) × (w.weights ≡ found.now))
-      xs) → Any (λ w. (w.log_height ≡ h) × (w.point ≡ p)) xs
-  weights-of (Some found) xs h p some has = (has.0, has.1, has.2, has.3, (has.4.0, has.4.1))
-  weights-of None xs h p some has = absurd (false≢true some)
-
-  -- what was found is one of them
-  pub found-of : (xs : List (PointWeights E)) (h : ℕ) (p : E) (found : LagrangeWeights E)
-      (P : PointWeights E → Type 0) → All P xs →
-      Any (λ w. (w.log_height ≡ h) × (w.point ≡ p) × (w.weights ≡ found)) xs →
-      P (weights_for h p found)
-  found-of xs h p found P all has =
-      subst (λ x. P (weights_for h p x)) has.4.2
-      (subst (λ t. P (weights_for h t has.1.weights)) has.4.1
-      (subst (λ n. P (weights_for n has.1.point has.1.weights)) has.4.0
-      (subst P has.3 (all has.0 has.1 has.2))))
+-- what is told of some value
+pub of-some : {A : Type 0} (o : Option A) (P : Type 0) → is_some o ≡ true → IfSome o (λ a. P) → P
+of-some (Some a) P some told = told
+of-some None P some told = absurd (false≢true some)
 
 -- what holds of those below a place, and of the one there, holds of those below the next
 pub below-more : {A : Type 0} (P : A → Type 0) (xs : List A) (i : ℕ) (x : A) → i < length xs →
@@ -76,3 +65,17 @@ below-more P xs i x within is before here j d below =
     (λ past. let same : j ≡ i = omega (arith, below, past) in
     subst (λ k. P (slice_index_or xs k d)) (sym same)
     (subst P (is ∙ get_or_default xs i x d within) here)) (cases_lt j i)
+
+-- the weights that were found for a matrix's height and a point are right
+pub weights-for : {F E : Type 0} {over : _} (m : MatrixAtPoints F E over) (blowup : ℕ) (t : E)
+    (w : PointWeights F E over) (lent : Bor (LagrangeWeights E)) →
+    IsFor blowup m.log_height t w → w.weights ≡ lent.now → AreWeightsFor m blowup t lent
+weights-for m blowup t w lent found same = record {
+  count = ap (λ s. length s.shares.items) (sym same) ∙ w.count
+      ∙ ap (λ b. 2 ^ (w.log_height - b)) found.0 ∙ ap (λ h. 2 ^ (h - blowup)) found.1;
+  sum =
+      subst (AreWeightsOf (fields_at m) blowup m.log_height t) same
+      (subst (λ p. AreWeightsOf (fields_at m) blowup m.log_height p w.weights) found.2
+      (subst (λ h. AreWeightsOf (fields_at m) blowup h w.point w.weights) found.1
+      (subst (λ b. AreWeightsOf (fields_at m) b w.log_height w.point w.weights) found.0 w.right)));
+}

@@ -9,4 +9,5 @@ pub mod Opened
 pub mod Pairs
 pub mod Prefix
 pub mod Quotients
+pub mod Widths
 pub mod Zips

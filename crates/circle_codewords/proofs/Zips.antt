@@ -1,16 +1,21 @@
 -- Lists whose elements belong together, place by place.
 use Rattle.std.specs.Prelude.{◌≡◌, ℕ, ◌<◌, List, [], ◌∷◌, ◌++◌, length, All, slice_index_or}
 use Rattle.std.specs.List.{AllZip}
-use Rattle.std.proofs.Common.{zero, suc, refl, ap, arith}
+use Rattle.std.proofs.Common.{zero, suc, refl, sym, ap, subst, arith}
 use Rattle.std.proofs.lemmas.List.Elements.{All-nil, All-cons}
 
 module _ {X Y : Type 0} (R : X → Y → Type 0) where
-  pub zip-push : (xs : List X) (ys : List Y) (x : X) (y : Y) → AllZip R xs ys → R x y →
+  zip-push : (xs : List X) (ys : List Y) (x : X) (y : Y) → AllZip R xs ys → R x y →
       AllZip R (xs ++ x ∷ []) (ys ++ y ∷ [])
   zip-push [] [] x y all here = (here, tt)
   zip-push [] (b ∷ ys) x y all here = absurd all
   zip-push (a ∷ xs) [] x y all here = absurd all
   zip-push (a ∷ xs) (b ∷ ys) x y all here = (all.0, zip-push xs ys x y all.1 here)
+
+  pub zip-pushed : (xs : List X) (ys zs : List Y) (x : X) (y : Y) → zs ≡ ys ++ y ∷ [] →
+      AllZip R xs ys → R x y → AllZip R (xs ++ x ∷ []) zs
+  zip-pushed xs ys zs x y made all here =
+      subst (AllZip R (xs ++ x ∷ [])) (sym made) (zip-push xs ys x y all here)
 
   pub zip-length : (xs : List X) (ys : List Y) → AllZip R xs ys → length xs ≡ length ys
   zip-length [] [] all = refl

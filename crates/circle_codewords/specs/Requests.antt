@@ -17,9 +17,9 @@ use Rattle.circle_relation.specs.RunOf.{opened_batch}
 use Rattle.circle_relation.specs.Statement.{BatchClaim, MatrixClaim, Opened}
 use Rattle.circle_codewords.specs.Lifts.{read_rows}
 use Rattle.circle_codewords.specs.Values.{AreOff, AreOpened}
-use Rattle.circle_codewords.specs.Words.{CanBeOpened, Committed, claim_of, committed_of}
+use Rattle.circle_codewords.specs.Words.{Committed, claim_of, committed_of}
 use Rattle.circle_codewords.specs.Openings.{OpensRows, places_of}
-use Rattle.circle_codewords.specs.declared.reduced.OpenedMatrix.{OpenedMatrix}
+use Rattle.circle_codewords.specs.declared.matrix.OpenedMatrix.{OpenedMatrix}
 
 -- the binary logarithm of a power of two below 2^64
 abbrev pub log_of : ℕ → ℕ
@@ -77,9 +77,9 @@ abbrev pub lists_of : {E : Type 0} → List (Vec E Global) → List (List E)
 lists_of vectors = map (λ v. v.items) vectors
 
 -- to a list of opened matrices those of a batch were added
-abbrev pub AddsBatch : {F E : Type 0} → Fields F E → ℕ → List (RowMajorMatrix F)
-    → List (Vec E Global) → List (Vec (Vec E Global) Global) → List (OpenedMatrix F E)
-    → List (OpenedMatrix F E) → Type 0
+abbrev pub AddsBatch : {F E : Type 0} {over : _} → Fields F E → ℕ → List (RowMajorMatrix F)
+    → List (Vec E Global) → List (Vec (Vec E Global) Global) → List (OpenedMatrix F E over)
+    → List (OpenedMatrix F E over) → Type 0
 AddsBatch k blowup matrices points values old new =
     map (committed_of k blowup) new ≡ map (committed_of k blowup) old
     ++ batch_committed k blowup matrices (lists_of points) (opened_rows values)
@@ -99,8 +99,8 @@ module _ {D F E : Type 0} (kept : D → List (RowMajorMatrix F)) where
         requests values
 
     -- these are they, one after another
-    abbrev pub AreAllRequested : List (OpeningRequest D E) → Openings E → List (OpenedMatrix F E)
-        → Type 0
+    abbrev pub AreAllRequested : {over : _} → List (OpeningRequest D E) → Openings E
+        → List (OpenedMatrix F E over) → Type 0
     AreAllRequested requests values list =
         map (committed_of k blowup) list ≡ flat_map (λ b. b) (all_committed requests values)
 
@@ -119,11 +119,6 @@ module _ {D F E : Type 0} (kept : D → List (RowMajorMatrix F)) where
 abbrev pub AreAnswered : {D F E M : Type 0} → Fields F E → (D → List (RowMajorMatrix F))
     → FriParameters M → List (OpeningRequest D E) → Openings E → Type 0
 AreAnswered k kept p requests values = AllZip (AreAnswers kept k p.log_blowup) requests values
-
--- a matrix can be opened by as many powers as there are more than its columns
-abbrev pub IsReady : {F E : Type 0} → Fields F E → ℕ → OpenedMatrix F E → Type 0
-IsReady k two_adicity m =
-    (powers : ℕ) → width_of m.rows.now < powers → CanBeOpened k two_adicity powers m
 
 -- parameters that an opening is made under
 pub record AreFit {M : Type 0} (p : FriParameters M) : Type 0 where

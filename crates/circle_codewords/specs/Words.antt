@@ -4,21 +4,20 @@ use Rattle.std.specs.Prelude.{◌≡◌, ℕ, ◌-◌, ◌/◌, ◌^◌, ◌<◌
 use Rattle.std.specs.Prelude.{length, map, flat_map, All, slice_index_or, Vec}
 use Rattle.std.specs.declared.alloc.Global.{Global}
 use Rattle.std.specs.List.{list_any, range_with_len}
-use Rattle.circle_field.specs.Circle.{origin}
+use Rattle.circle_field.specs.Circle.{Coordinates, origin}
+use Rattle.circle_field.specs.Field.{FieldOps}
 use Rattle.circle_commit.specs.Matrix.{rows_from}
 use Rattle.circle_commit.specs.RowMajorMatrix.{rows, width_of, height_of}
 use Rattle.circle_commit.specs.DotProduct.{pairwise}
 use Rattle.circle_folding.specs.Fold.{y_folds, x_folds}
 use Rattle.circle_folding.specs.Lambda.{lambda_of, remainder_of}
-use Rattle.circle_folding.specs.Quotient.{ArePowers}
 use Rattle.circle_relation.specs.Sums.{Adds, reduced}
 use Rattle.circle_relation.specs.Accepts.{Fields}
 use Rattle.circle_relation.specs.Statement.{PointClaim}
 use Rattle.circle_commit.specs.declared.matrix.RowMajorMatrix.{RowMajorMatrix}
 use Rattle.circle_codewords.specs.Lifts.{read_rows}
 use Rattle.circle_codewords.specs.Ratios.{points_of_height}
-use Rattle.circle_codewords.specs.Values.{AreOff}
-use Rattle.circle_codewords.specs.declared.reduced.OpenedMatrix.{OpenedMatrix}
+use Rattle.circle_codewords.specs.declared.matrix.OpenedMatrix.{OpenedMatrix}
 
 -- a committed matrix: the logarithm of its height, its rows as codewords read them, and the points
 -- that it is opened at with its columns' values there
@@ -63,24 +62,13 @@ abbrev pub pairs_of : {E : Type 0} → List E → List (List E)
 pairs_of word = rows_from 2 (length word / 2) word
 
 -- what contracts see of a matrix that is opened
-abbrev pub committed_of : {F E : Type 0} → Fields F E → ℕ → OpenedMatrix F E → Committed F E
+abbrev pub committed_of : {F E : Type 0} {over : _} → Fields F E → ℕ → OpenedMatrix F E over
+    → Committed F E
 committed_of k blowup m = record {
   log_height = m.log_height;
   rows = read_rows k blowup m.log_height (width_of m.rows.now) (rows m.rows.now);
   claims = pairwise (λ t v. claim_of t v.items) m.points.now m.values.now;
 }
-
--- a matrix can be opened: it has 2^h rows, the domain of these is clear of its points, and it has
--- for each a value of each column; there are more powers than columns
-pub record CanBeOpened {F E : Type 0} (k : Fields F E) (two_adicity powers : ℕ)
-    (m : OpenedMatrix F E) : Type 0 where
-  pub positive : 1 ≤ m.log_height
-  pub in_group : m.log_height < two_adicity
-  pub rows : height_of m.rows.now ≡ 2 ^ m.log_height
-  pub off : AreOff k m.log_height m.points.now
-  pub valued : length m.values.now ≡ length m.points.now
-  pub widths : All (λ v. length v.items ≡ width_of m.rows.now) m.values.now
-  pub enough : width_of m.rows.now < powers
 
 -- the logarithm of a height that leaves something of its codeword without the blowup
 abbrev pub IsHeight : ℕ → ℕ → ℕ → Type 0
@@ -104,12 +92,9 @@ module _ {F E : Type 0} (k : Fields F E) (heights : List ℕ) (folded : ℕ → 
   next_word h beta word =
       joined h (x_folds k.field k.gen k.extension k.embed (h - 1) beta (pairs_of word))
 
--- this holds of each element that these are the powers of
-abbrev pub OfPowers : {F E : Type 0} → Fields F E → List E → (E → Type 0) → Type 0
-OfPowers k powers Holds = (alpha : _) → ArePowers k.extension alpha powers → Holds alpha
-
 -- the codewords of matrices that are opened
-module _ {F E : Type 0} (k : Fields F E) (matrices : List (OpenedMatrix F E)) (blowup : ℕ) where
+module _ {F E : Type 0} {over : _} (k : Fields F E) (matrices : List (OpenedMatrix F E over))
+    (blowup : ℕ) where
   abbrev pub opened_word : E → ℕ → List E
   opened_word alpha = reduced_word k alpha (map (committed_of k blowup) matrices)
 
@@ -125,15 +110,19 @@ module _ {F E : Type 0} (k : Fields F E) (matrices : List (OpenedMatrix F E)) (b
   layers_of alpha heights = map (opened_rows alpha) heights
 
 -- to sums over the points of its height, what the claims on a matrix that is opened add
-abbrev pub AddsClaims : {F E : Type 0} → Fields F E → ℕ → OpenedMatrix F E → E → E → E → List E
-    → List E → Type 0
+abbrev pub AddsClaims : {F E : Type 0} {over : _} → Fields F E → ℕ → OpenedMatrix F E over → E → E
+    → E → List E → List E → Type 0
 AddsClaims k blowup m alpha =
     Adds k.extension k.embed alpha (points_of_height k.field k.gen m.log_height) (origin k.field)
     (claims_on (committed_of k blowup m))
 
 -- what rows of two of the height 2^h fold into by y
+abbrev pub y_folds_at : {F E : Type 0} → FieldOps F → (ℕ → Coordinates F) → FieldOps E → (F → E) → E
+    → ℕ → List (List E) → List E
+y_folds_at k gen l embed bivariate h layer = y_folds k gen l embed (h - 1) bivariate layer
+
 abbrev pub y_folded : {F E : Type 0} → Fields F E → E → ℕ → List (List E) → List E
-y_folded k bivariate h layer = y_folds k.field k.gen k.extension k.embed (h - 1) bivariate layer
+y_folded k = y_folds_at k.field k.gen k.extension k.embed
 
 -- whatever the codewords of the heights are called, the codeword that follows these rows of two of
 -- the height 2^h: their fold by x, and what joins there

@@ -7,15 +7,15 @@
 //! and by the transform about half a product for each layer and each coefficient.
 ghost use Rattle.std.specs.Prelude.{◌≡◌, ◌-◌, ◌^◌, ◌<◌, ◌≤◌, ◌++◌, length, map, IfOk, OnOk};
 ghost use Rattle.circle_commit.specs.DotProduct.{dot};
-ghost use Rattle.circle_commit.specs.RowMajorMatrix.{rows, width_of, height_of};
-ghost use Rattle.circle_codewords.specs.Lifts.{combined, extended_word, read_rows};
+ghost use Rattle.circle_commit.specs.RowMajorMatrix.{rows, width_of};
+ghost use Rattle.circle_codewords.specs.OfMatrices.{combined_of, extended_word};
 
+use crate::matrix::OpenedMatrix;
 use crate::values::first_domain;
 use circle_commit::{Matrix, RowMajorMatrix, entry_count};
 use circle_domain::CircleDomain;
 use circle_field::{ComplexExtendable, ExtensionField, Field};
 use circle_plane::CircleEvaluations;
-use circle_relation::OverCircle;
 use std::alloc::{AllocError, Global};
 
 /// The number of columns from which on the combination of a matrix's columns is formed on its first
@@ -94,51 +94,48 @@ fn word_of_rows<F: Field, EF: ExtensionField<F>>(
     Ok(word)
 }
 
-// The codeword of `2^log_height` entries that its first ones fix: at each point of the domain the
-// sum of these, each times the Lagrange polynomial of its point.
-fn extended<F: ComplexExtendable, EF: ExtensionField<F>>(
-    alloc: Global,
-    log_height: usize,
-    log_blowup: usize,
-    first: &[EF],
-) -> Result<Vec<EF>, AllocError>
-    requires blowup { log_blowup < log_height }
-    requires in_group { log_height < F.CIRCLE_TWO_ADICITY }
-    requires count { length first.now ≡ 2 ^ (log_height - log_blowup) }
-    ensures { let k = ⟦<EF as OverCircle<F>>⟧.fields in IfOk result (λ word.
-        word.items ≡ extended_word k log_blowup log_height first.now) }
-{
-    let columns = coefficient_rows::<F, EF>(alloc, first)?;
-    let domain = first_domain::<F>(log_blowup, log_height);
-    let given = CircleEvaluations::from_cfft_order(domain, columns);
-    let made = given.extrapolate(alloc, CircleDomain::standard(log_height))?;
-    word_of_rows(alloc, &made.to_cfft_order())
-}
-
-/// The combination of the columns of a committed matrix: at each row the sum of the entries that
-/// codewords read there, each times its power of the batching challenge. Of at least [`LIFT_WIDTH`]
-/// columns the values are read that the first `2^(log_height - log_blowup)` rows fix.
-///
-/// Requires `log_blowup < log_height < CIRCLE_TWO_ADICITY`, a matrix of `2^log_height` rows and as
-/// many powers as it has columns. Fails where memory is refused.
-pub fn combined_rows<F: ComplexExtendable, EF: ExtensionField<F>>(
-    alloc: Global,
-    log_height: usize,
-    log_blowup: usize,
-    matrix: &RowMajorMatrix<F>,
-    powers: &[EF],
-) -> Result<Vec<EF>, AllocError>
-    requires blowup { log_blowup < log_height }
-    requires in_group { log_height < F.CIRCLE_TWO_ADICITY }
-    requires rows { height_of matrix.now ≡ 2 ^ log_height }
-    requires enough { width_of matrix.now ≤ length powers.now }
-    ensures { let k = ⟦<EF as OverCircle<F>>⟧.fields in let m = matrix.now in IfOk result (λ c.
-        c.items ≡ combined k powers.now (read_rows k log_blowup log_height (width_of m) (rows m))) }
-{
-    if matrix.width() < LIFT_WIDTH {
-        return combined_each(alloc, matrix, powers);
+impl<F: ComplexExtendable, EF: ExtensionField<F>> OpenedMatrix<'_, F, EF> {
+    // The codeword of the matrix's height that its first entries fix: at each point of the domain
+    // the sum of these, each times the Lagrange polynomial of its point.
+    fn extended(
+        &self,
+        alloc: Global,
+        log_blowup: usize,
+        first: &[EF],
+    ) -> Result<Vec<EF>, AllocError>
+        requires blowup { log_blowup < self.now.log_height }
+        requires count { length first.now ≡ 2 ^ (self.now.log_height - log_blowup) }
+        ensures { IfOk result (λ word.
+            word.items ≡ extended_word self.now log_blowup first.now) }
+    {
+        let columns = coefficient_rows::<F, EF>(alloc, first)?;
+        let domain = first_domain::<F>(log_blowup, self.log_height);
+        let given = CircleEvaluations::from_cfft_order(domain, columns);
+        let made = given.extrapolate(alloc, CircleDomain::standard(self.log_height))?;
+        word_of_rows(alloc, &made.to_cfft_order())
     }
-    let (first, _) = matrix.split_rows(1 << (log_height - log_blowup));
-    let combination = combined_each(alloc, &first, powers)?;
-    extended(alloc, log_height, log_blowup, &combination)
+
+    /// The combination of the columns: at each row the sum of the entries that codewords read
+    /// there, each times its power of the batching challenge. Of at least [`LIFT_WIDTH`] columns
+    /// the values are read that the first `2^(log_height - log_blowup)` rows fix.
+    ///
+    /// Requires `log_blowup < log_height`, and as many powers as there are columns. Fails where
+    /// memory is refused.
+    pub fn combined_rows(
+        &self,
+        alloc: Global,
+        log_blowup: usize,
+        powers: &[EF],
+    ) -> Result<Vec<EF>, AllocError>
+        requires blowup { log_blowup < self.now.log_height }
+        requires enough { width_of self.now.rows.now ≤ length powers.now }
+        ensures { IfOk result (λ c. c.items ≡ combined_of self.now log_blowup powers.now) }
+    {
+        if self.rows.width() < LIFT_WIDTH {
+            return combined_each(alloc, self.rows, powers);
+        }
+        let (first, _) = self.rows.split_rows(1 << (self.log_height - log_blowup));
+        let combination = combined_each(alloc, &first, powers)?;
+        self.extended(alloc, log_blowup, &combination)
+    }
 }

@@ -4,71 +4,58 @@
 ghost use Rattle.std.specs.Prelude.{◌≡◌, ◌-◌, ◌^◌, ◌<◌, ◌≤◌, length, map, All, IfOk};
 ghost use Rattle.circle_commit.specs.RowMajorMatrix.{rows, width_of, height_of};
 ghost use Rattle.circle_commit.specs.DotProduct.{pairwise};
-ghost use Rattle.circle_codewords.specs.Words.{CanBeOpened, HaveHeights, IsHeight, OfPowers};
-ghost use Rattle.circle_codewords.specs.Words.{layers_of, opened_lambda, opened_rows, y_folded};
+ghost use Rattle.circle_codewords.specs.OfMatrices.{lambda_at, rows_at};
+ghost use Rattle.circle_codewords.specs.Words.{HaveHeights, IsHeight, y_folds_at};
 
-use crate::reduced::{OpenedMatrix, reduced_word};
+use crate::matrix::BatchedMatrices;
 use circle_commit::RowMajorMatrix;
 use circle_field::{ComplexExtendable, ExtensionField};
 use circle_folding::{extract_lambda, fold_y};
-use circle_relation::OverCircle;
 use std::alloc::{AllocError, Global};
 
-// The lambda of one height, and what is left of the codeword of that height, as rows of two.
-fn layer<F: ComplexExtendable, EF: ExtensionField<F>>(
-    alloc: Global,
-    log_height: usize,
-    log_blowup: usize,
-    powers: &[EF],
-    matrices: &[OpenedMatrix<F, EF>],
-) -> Result<(EF, RowMajorMatrix<EF>), AllocError>
-    requires blowup { 1 ≤ log_blowup }
-    requires height { IsHeight F.CIRCLE_TWO_ADICITY log_blowup log_height }
-    requires openable { All (CanBeOpened ⟦<EF as OverCircle<F>>⟧.fields F.CIRCLE_TWO_ADICITY
-        (length powers.now)) matrices.now }
-    ensures lambda { let k = ⟦<EF as OverCircle<F>>⟧.fields in IfOk result (λ r. OfPowers k
-        powers.now (λ alpha. r.0 ≡ opened_lambda k matrices.now log_blowup alpha log_height)) }
-    ensures rows { let k = ⟦<EF as OverCircle<F>>⟧.fields in IfOk result (λ r. OfPowers k
-        powers.now (λ alpha. rows r.1 ≡ opened_rows k matrices.now log_blowup alpha log_height)) }
-    ensures width { IfOk result (λ r. width_of r.1 ≡ 2) }
-    ensures height { IfOk result (λ r. height_of r.1 ≡ 2 ^ (log_height - 1)) }
-{
-    let mut word = reduced_word(alloc, log_height, log_blowup, powers, matrices)?;
-    let lambda = extract_lambda::<F, EF>(alloc, &mut word, log_blowup)?;
-    Ok((lambda, RowMajorMatrix::new(word, 2)))
-}
-
-/// Of each height the multiple of the vanishing polynomial in its reduced codeword, and the
-/// codeword without it, as rows of two.
-///
-/// Requires `log_blowup >= 1`, heights above it and below `CIRCLE_TWO_ADICITY`, matrices that can
-/// be opened, and powers of the batching challenge from the first on, more than any matrix has
-/// columns. Fails where memory is refused.
-pub fn first_layer<F: ComplexExtendable, EF: ExtensionField<F>>(
-    alloc: Global,
-    heights: &[usize],
-    log_blowup: usize,
-    powers: &[EF],
-    matrices: &[OpenedMatrix<F, EF>],
-) -> Result<(Vec<EF>, Vec<RowMajorMatrix<EF>>), AllocError>
-    requires blowup { 1 ≤ log_blowup }
-    requires heights { All (IsHeight F.CIRCLE_TWO_ADICITY log_blowup) heights.now }
-    requires openable { All (CanBeOpened ⟦<EF as OverCircle<F>>⟧.fields F.CIRCLE_TWO_ADICITY
-        (length powers.now)) matrices.now }
-    ensures lambdas { let k = ⟦<EF as OverCircle<F>>⟧.fields in IfOk result (λ r. OfPowers k
-        powers.now (λ a. r.0.items ≡ map (opened_lambda k matrices.now log_blowup a) heights.now)) }
-    ensures layers { let k = ⟦<EF as OverCircle<F>>⟧.fields in IfOk result (λ r. OfPowers k
-        powers.now (λ a. map rows r.1.items ≡ layers_of k matrices.now log_blowup a heights.now)) }
-    ensures shapes { IfOk result (λ r. HaveHeights heights.now r.1.items) }
-{
-    let mut lambdas = Vec::with_capacity(alloc, heights.len())?;
-    let mut layers = Vec::with_capacity(alloc, heights.len())?;
-    for log_height in heights {
-        let (lambda, rows) = layer(alloc, *log_height, log_blowup, powers, matrices)?;
-        lambdas.push(lambda)?;
-        layers.push(rows)?;
+impl<F: ComplexExtendable, EF: ExtensionField<F>> BatchedMatrices<'_, F, EF> {
+    // The lambda of one height, and what is left of the codeword of that height, as rows of two.
+    fn layer(
+        &self,
+        alloc: Global,
+        log_height: usize,
+    ) -> Result<(EF, RowMajorMatrix<EF>), AllocError>
+        requires height { IsHeight F.CIRCLE_TWO_ADICITY self.now.log_blowup log_height }
+        ensures lambda { IfOk result (λ r. r.0 ≡ lambda_at self.now log_height) }
+        ensures rows { IfOk result (λ r. rows r.1 ≡ rows_at self.now log_height) }
+        ensures width { IfOk result (λ r. width_of r.1 ≡ 2) }
+        ensures height { IfOk result (λ r. height_of r.1 ≡ 2 ^ (log_height - 1)) }
+    {
+        let mut word = self.reduced_word(alloc, log_height)?;
+        let lambda = extract_lambda::<F, EF>(alloc, &mut word, self.log_blowup)?;
+        Ok((lambda, RowMajorMatrix::new(word, 2)))
     }
-    Ok((lambdas, layers))
+
+    /// Of each height the multiple of the vanishing polynomial in its reduced codeword, and the
+    /// codeword without it, as rows of two.
+    ///
+    /// Requires heights above the blowup and below `CIRCLE_TWO_ADICITY`. Fails where memory is
+    /// refused.
+    pub fn first_layer(
+        &self,
+        alloc: Global,
+        heights: &[usize],
+    ) -> Result<(Vec<EF>, Vec<RowMajorMatrix<EF>>), AllocError>
+        requires heights { All (IsHeight F.CIRCLE_TWO_ADICITY self.now.log_blowup) heights.now }
+        ensures lambdas { IfOk result (λ r. r.0.items ≡ map (lambda_at self.now) heights.now) }
+        ensures layers { IfOk result (λ r.
+            map rows r.1.items ≡ map (rows_at self.now) heights.now) }
+        ensures shapes { IfOk result (λ r. HaveHeights heights.now r.1.items) }
+    {
+        let mut lambdas = Vec::with_capacity(alloc, heights.len())?;
+        let mut layers = Vec::with_capacity(alloc, heights.len())?;
+        for log_height in heights {
+            let (lambda, rows) = self.layer(alloc, *log_height)?;
+            lambdas.push(lambda)?;
+            layers.push(rows)?;
+        }
+        Ok((lambdas, layers))
+    }
 }
 
 /// What the layers of these heights fold into by y.
@@ -83,8 +70,8 @@ pub fn fold_corrected<F: ComplexExtendable, EF: ExtensionField<F>>(
 ) -> Result<Vec<Vec<EF>>, AllocError>
     requires heights { All (λ h. (1 ≤ h) × (h < F.CIRCLE_TWO_ADICITY)) heights.now }
     requires shapes { HaveHeights heights.now layers.now }
-    ensures { let k = ⟦<EF as OverCircle<F>>⟧.fields in IfOk result (λ folded. map (λ w. w.items)
-        folded.items ≡ pairwise (y_folded k bivariate) heights.now (map rows layers.now)) }
+    ensures { IfOk result (λ folded. map (λ w. w.items) folded.items ≡ pairwise (y_folds_at F.ops
+        F.generators EF.ops EF.embed bivariate) heights.now (map rows layers.now)) }
 {
     let mut folded = Vec::with_capacity(alloc, layers.len())?;
     for layer in layers {

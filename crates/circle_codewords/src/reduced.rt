@@ -1,7 +1,7 @@
 //! The reduced codewords: of each height, at every point of its domain, the quotients of all claims
 //! on matrices of that height (Circle STARKs, section 6).
 ghost use Rattle.std.specs.Prelude.{◌≡◌, ◌≢◌, ◌^◌, ◌<◌, ◌≤◌, length, map, All};
-ghost use Rattle.std.specs.Prelude.{IsTrue, IsNone, IfSome, IfOk, OnOk};
+ghost use Rattle.std.specs.Prelude.{IsNone, IfSome, IfOk, OnOk};
 ghost use Rattle.std.specs.List.{Any};
 ghost use Rattle.circle_commit.specs.RowMajorMatrix.{width_of};
 ghost use Rattle.circle_commit.specs.DotProduct.{dot};
@@ -10,83 +10,13 @@ ghost use Rattle.circle_folding.specs.Queries.{IsApart};
 ghost use Rattle.circle_point.specs.Point.{coordinates};
 ghost use Rattle.circle_point.specs.Projective.{from_line};
 ghost use Rattle.circle_codewords.specs.Ratios.{points_of_height, AreRatiosOf, with_quotients};
-ghost use Rattle.circle_codewords.specs.Values.{AreOff};
-ghost use Rattle.circle_codewords.specs.Words.{AddsClaims, CanBeOpened, OfPowers, opened_word};
+ghost use Rattle.circle_codewords.specs.OfMatrices.{AddsClaims, word_at};
 
-use crate::combined::combined_rows;
+use crate::matrix::{BatchedMatrices, OpenedMatrix};
 use crate::ratios::{PointRatios, standard_points, vanishing_ratios};
-use crate::values::are_off_domain;
-use circle_commit::{Matrix, RowMajorMatrix};
 use circle_field::{ComplexExtendable, ExtensionField, Field};
 use circle_point::Point;
-use circle_relation::OverCircle;
 use std::alloc::{AllocError, Global};
-
-/// A committed matrix, with the points that it is opened at and its columns' values there.
-#[derive(Drop)]
-pub struct OpenedMatrix<'a, F, EF> {
-    /// The binary logarithm of its height.
-    pub log_height: usize,
-    /// Its rows, in the order of the transform.
-    pub rows: &'a RowMajorMatrix<F>,
-    /// The points, each by its coordinate on the projective line.
-    pub points: &'a [EF],
-    /// For each point the value of each column.
-    pub values: &'a [Vec<EF>],
-}
-
-// Whether values are of `width` columns each.
-fn have_width<EF: Copy>(values: &[Vec<EF>], width: usize) -> bool
-    ensures yes { IsTrue result → All (λ v. length v.items ≡ width) values.now }
-    ensures no { All (λ v. length v.items ≡ width) values.now → IsTrue result }
-{
-    for value in values {
-        if value.len() != width {
-            return false;
-        }
-    }
-    true
-}
-
-// Whether a matrix can be opened by these powers.
-fn can_be_opened<F: ComplexExtendable, EF: ExtensionField<F>>(
-    matrix: &OpenedMatrix<F, EF>,
-    num_powers: usize,
-) -> bool
-    ensures yes { IsTrue result → CanBeOpened ⟦<EF as OverCircle<F>>⟧.fields F.CIRCLE_TWO_ADICITY
-        num_powers matrix.now }
-    ensures no { CanBeOpened ⟦<EF as OverCircle<F>>⟧.fields F.CIRCLE_TWO_ADICITY num_powers
-        matrix.now → IsTrue result }
-{
-    matrix.log_height >= 1
-        && matrix.log_height < F::CIRCLE_TWO_ADICITY
-        && matrix.rows.height() == 1 << matrix.log_height
-        && are_off_domain::<F, EF>(matrix.log_height, matrix.points)
-        && matrix.values.len() == matrix.points.len()
-        && have_width(matrix.values, matrix.rows.width())
-        && matrix.rows.width() < num_powers
-}
-
-/// Whether matrices can be opened by `powers` powers of the batching challenge, as the codewords of
-/// an opening require: each has `2^log_height` rows, with `1 <= log_height < CIRCLE_TWO_ADICITY`,
-/// points off the domain of its rows, for each of them a value of each column, and fewer columns
-/// than there are powers. Takes no memory.
-pub fn can_all_be_opened<F: ComplexExtendable, EF: ExtensionField<F>>(
-    matrices: &[OpenedMatrix<F, EF>],
-    num_powers: usize,
-) -> bool
-    ensures yes { IsTrue result → All (CanBeOpened ⟦<EF as OverCircle<F>>⟧.fields
-        F.CIRCLE_TWO_ADICITY num_powers) matrices.now }
-    ensures no { All (CanBeOpened ⟦<EF as OverCircle<F>>⟧.fields F.CIRCLE_TWO_ADICITY num_powers)
-        matrices.now → IsTrue result }
-{
-    for matrix in matrices {
-        if !can_be_opened(matrix, num_powers) {
-            return false;
-        }
-    }
-    true
-}
 
 // The sum of claimed values, each times its power.
 fn combined_values<EF: Field>(values: &[EF], powers: &[EF]) -> EF
@@ -180,103 +110,88 @@ fn add_ratios<F: Field, EF: ExtensionField<F>>(
     Ok(())
 }
 
-// The ratios of all points that matrices of a height are opened at.
-fn all_ratios<F: ComplexExtendable, EF: ExtensionField<F>>(
-    alloc: Global,
-    log_height: usize,
-    matrices: &[OpenedMatrix<F, EF>],
-) -> Result<Vec<PointRatios<EF>>, AllocError>
-    requires positive { 1 ≤ log_height }
-    requires in_group { log_height < F.CIRCLE_TWO_ADICITY }
-    requires off { All (λ m. m.log_height ≡ log_height →
-        AreOff ⟦<EF as OverCircle<F>>⟧.fields log_height m.points.now) matrices.now }
-    ensures right { IfOk result (λ all. All (AreRatiosOf EF.ops EF.embed
-        (points_of_height F.ops F.generators log_height)) all.items) }
-    ensures known { IfOk result (λ all. All (λ m. m.log_height ≡ log_height →
-        All (λ t. Any (λ r. r.point ≡ t) all.items) m.points.now) matrices.now) }
-{
-    let domain = standard_points::<F>(alloc, log_height)?;
-    let mut all = Vec::new(alloc);
-    for matrix in matrices {
-        if matrix.log_height == log_height {
-            add_ratios(alloc, &mut all, &domain, matrix.points)?;
+impl<F: ComplexExtendable, EF: ExtensionField<F>> BatchedMatrices<'_, F, EF> {
+    // The ratios of all points that matrices of a height are opened at.
+    fn all_ratios(
+        &self,
+        alloc: Global,
+        log_height: usize,
+    ) -> Result<Vec<PointRatios<EF>>, AllocError>
+        requires positive { 1 ≤ log_height }
+        requires in_group { log_height < F.CIRCLE_TWO_ADICITY }
+        ensures right { IfOk result (λ all. All (AreRatiosOf EF.ops EF.embed
+            (points_of_height F.ops F.generators log_height)) all.items) }
+        ensures known { IfOk result (λ all. All (λ m. m.log_height ≡ log_height →
+            All (λ t. Any (λ r. r.point ≡ t) all.items) m.points.now) self.now.matrices.now) }
+    {
+        let domain = standard_points::<F>(alloc, log_height)?;
+        let mut all = Vec::new(alloc);
+        for matrix in self.matrices {
+            if matrix.log_height == log_height {
+                add_ratios(alloc, &mut all, &domain, matrix.points)?;
+            }
         }
+        Ok(all)
     }
-    Ok(all)
-}
 
-// Adds to the sums the quotients of a matrix's rows under all claims on it, and returns the offset
-// behind them.
-fn add_matrix<F: ComplexExtendable, EF: ExtensionField<F>>(
-    alloc: Global,
-    log_blowup: usize,
-    sums: &mut [EF],
-    offset: EF,
-    powers: &[EF],
-    ratios: &[PointRatios<EF>],
-    matrix: &OpenedMatrix<F, EF>,
-) -> Result<EF, AllocError>
-    requires openable { CanBeOpened ⟦<EF as OverCircle<F>>⟧.fields F.CIRCLE_TWO_ADICITY
-        (length powers.now) matrix.now }
-    requires blowup { log_blowup < matrix.now.log_height }
-    requires size { length sums.old ≡ 2 ^ matrix.now.log_height }
-    requires right { All (AreRatiosOf EF.ops EF.embed
-        (points_of_height F.ops F.generators matrix.now.log_height)) ratios.now }
-    requires known { All (λ t. Any (λ r. r.point ≡ t) ratios.now) matrix.now.points.now }
-    ensures sums { let k = ⟦<EF as OverCircle<F>>⟧.fields in let m = matrix.now in IfOk result (λ o.
-        OfPowers k powers.now (λ a. AddsClaims k log_blowup m a offset o sums.old sums.new)) }
-{
-    if matrix.points.is_empty() {
-        return Ok(offset);
-    }
-    let combined = combined_rows(alloc, matrix.log_height, log_blowup, matrix.rows, powers)?;
-    let mut after = offset;
-    for (i, point) in matrix.points.iter().enumerate() {
-        let values = &matrix.values[i];
-        let power = powers[values.len()];
-        let half = after.halve();
-        let claimed = combined_values(values, powers);
-        let ratios = ratios_at(ratios, *point).unwrap();
-        add_quotients(sums, half, half * power, ratios, &combined, claimed);
-        after = after * power * power;
-    }
-    Ok(after)
-}
-
-/// The codeword of one height: at each point of its domain the quotients of the claims on matrices
-/// of that height, in order, each times the power of the batching challenge of twice the number of
-/// columns that are claimed before it (section 6, Remark 21).
-///
-/// Of a matrix of at least [`LIFT_WIDTH`](crate::LIFT_WIDTH) columns the values are taken that its
-/// first `2^(log_height - log_blowup)` rows fix.
-///
-/// Requires `log_blowup < log_height < CIRCLE_TWO_ADICITY`, matrices that can be opened, as
-/// [`can_all_be_opened`] tests, and powers of the batching challenge from the first on. Fails where
-/// memory is refused.
-pub fn reduced_word<F: ComplexExtendable, EF: ExtensionField<F>>(
-    alloc: Global,
-    log_height: usize,
-    log_blowup: usize,
-    powers: &[EF],
-    matrices: &[OpenedMatrix<F, EF>],
-) -> Result<Vec<EF>, AllocError>
-    requires blowup { log_blowup < log_height }
-    requires in_group { log_height < F.CIRCLE_TWO_ADICITY }
-    requires openable { All (CanBeOpened ⟦<EF as OverCircle<F>>⟧.fields F.CIRCLE_TWO_ADICITY
-        (length powers.now)) matrices.now }
-    ensures count { IfOk result (λ word. length word.items ≡ 2 ^ log_height) }
-    ensures word { let k = ⟦<EF as OverCircle<F>>⟧.fields in IfOk result (λ word. OfPowers k
-        powers.now (λ a. word.items ≡ opened_word k matrices.now log_blowup a log_height)) }
-{
-    let ratios = all_ratios(alloc, log_height, matrices)?;
-    let mut word = vec![in alloc; EF::ZERO; 1 << log_height]?;
-    let mut offset = EF::ONE;
-    for matrix in matrices {
-        if matrix.log_height == log_height {
-            offset = add_matrix(
-                alloc, log_blowup, &mut word, offset, powers, &ratios, matrix,
-            )?;
+    // Adds to the sums the quotients of a matrix's rows under all claims on it, and returns the
+    // offset behind them.
+    fn add_matrix(
+        &self,
+        alloc: Global,
+        sums: &mut [EF],
+        offset: EF,
+        ratios: &[PointRatios<EF>],
+        matrix: &OpenedMatrix<F, EF>,
+    ) -> Result<EF, AllocError>
+        requires blowup { self.now.log_blowup < matrix.now.log_height }
+        requires enough { width_of matrix.now.rows.now < length self.now.powers.items }
+        requires size { length sums.old ≡ 2 ^ matrix.now.log_height }
+        requires right { All (AreRatiosOf EF.ops EF.embed
+            (points_of_height F.ops F.generators matrix.now.log_height)) ratios.now }
+        requires known { All (λ t. Any (λ r. r.point ≡ t) ratios.now) matrix.now.points.now }
+        ensures { IfOk result (λ o. AddsClaims self.now matrix.now offset o sums.old sums.new) }
+    {
+        if matrix.points.is_empty() {
+            return Ok(offset);
         }
+        let powers = self.powers.as_slice();
+        let combined = matrix.combined_rows(alloc, self.log_blowup, powers)?;
+        let mut after = offset;
+        for (i, point) in matrix.points.iter().enumerate() {
+            let values = &matrix.values[i];
+            let power = powers[values.len()];
+            let half = after.halve();
+            let claimed = combined_values(values, powers);
+            let ratios = ratios_at(ratios, *point).unwrap();
+            add_quotients(sums, half, half * power, ratios, &combined, claimed);
+            after = after * power * power;
+        }
+        Ok(after)
     }
-    Ok(word)
+
+    /// The codeword of one height: at each point of its domain the quotients of the claims on
+    /// matrices of that height, in order, each times the power of the batching challenge of twice
+    /// the number of columns that are claimed before it (section 6, Remark 21).
+    ///
+    /// Of a matrix of at least [`LIFT_WIDTH`](crate::LIFT_WIDTH) columns the values are taken that
+    /// its first `2^(log_height - log_blowup)` rows fix.
+    ///
+    /// Requires `log_blowup < log_height < CIRCLE_TWO_ADICITY`. Fails where memory is refused.
+    pub fn reduced_word(&self, alloc: Global, log_height: usize) -> Result<Vec<EF>, AllocError>
+        requires blowup { self.now.log_blowup < log_height }
+        requires in_group { log_height < F.CIRCLE_TWO_ADICITY }
+        ensures count { IfOk result (λ word. length word.items ≡ 2 ^ log_height) }
+        ensures word { IfOk result (λ word. word.items ≡ word_at self.now log_height) }
+    {
+        let ratios = self.all_ratios(alloc, log_height)?;
+        let mut word = vec![in alloc; EF::ZERO; 1 << log_height]?;
+        let mut offset = EF::ONE;
+        for matrix in self.matrices {
+            if matrix.log_height == log_height {
+                offset = self.add_matrix(alloc, &mut word, offset, &ratios, matrix)?;
+            }
+        }
+        Ok(word)
+    }
 }

@@ -8,40 +8,30 @@
 ghost use Rattle.std.specs.Prelude.{◌≡◌, ◌≢◌, ◌+◌, ◌-◌, ◌^◌, ◌<◌, ◌≤◌, ◌↔◌, length, map, All};
 ghost use Rattle.std.specs.Prelude.{IsTrue, IsNone, IfSome, IfOk, OnOk};
 ghost use Rattle.std.specs.List.{AllZip, Any};
-ghost use Rattle.circle_commit.specs.RowMajorMatrix.{height_of};
+ghost use Rattle.circle_domain.specs.Clear.{IsClearOf};
 ghost use Rattle.circle_domain.specs.Domain.{log_size, shift_of};
 ghost use Rattle.circle_domain.specs.Selectors.{IsFinite};
 ghost use Rattle.circle_folding.specs.Queries.{IsApart};
 ghost use Rattle.circle_point.specs.Projective.{from_line};
+ghost use Rattle.circle_codewords.specs.OfMatrices.{AreValuesAt, AreWeightsFor, IsFor};
 ghost use Rattle.circle_codewords.specs.Ratios.{points_of_height};
-ghost use Rattle.circle_codewords.specs.Values.{IsOffDomain, AreWeightsOf, OpensBy};
-ghost use Rattle.circle_codewords.specs.Values.{AreOff, AreOpened};
+ghost use Rattle.circle_codewords.specs.Values.{AreOff, domain_points};
 
-use circle_commit::RowMajorMatrix;
+use crate::matrix::{MatrixAtPoints, PointWeights};
 use circle_domain::{CircleDomain, LagrangeWeights, lagrange_weights};
-use circle_field::{ComplexExtendable, ExtensionField, Field};
+use circle_field::{ComplexExtendable, ExtensionField};
 use circle_plane::CircleEvaluations;
 use circle_point::Point;
 use circle_relation::OverCircle;
 use std::alloc::{AllocError, Global};
-
-/// The Lagrange polynomials, at one point, of the first points of the domain of one height.
-#[derive(Drop)]
-pub struct PointWeights<EF> {
-    /// The binary logarithm of the height.
-    pub log_height: usize,
-    /// The coordinate of the point on the projective line.
-    pub point: EF,
-    /// The Lagrange polynomials there.
-    pub weights: LagrangeWeights<EF>,
-}
+use std::marker::PhantomData;
 
 // Whether a point is not at infinity, and a standard domain is clear of it.
 fn is_off_domain<F: ComplexExtendable, EF: ExtensionField<F>>(log_height: usize, point: EF) -> bool
     requires positive { 1 ≤ log_height }
     requires in_group { log_height < F.CIRCLE_TWO_ADICITY }
-    ensures { IsTrue result ↔ (IsFinite EF.ops point
-        × IsOffDomain ⟦<EF as OverCircle<F>>⟧.fields log_height point) }
+    ensures { IsTrue result ↔ (IsFinite EF.ops point × IsClearOf EF.ops EF.embed
+        (domain_points F.ops F.generators log_height) (from_line EF.ops point)) }
 {
     match Point::from_projective_line(point) {
         Some(at) => CircleDomain::<F>::standard(log_height).is_clear_of(at),
@@ -73,25 +63,6 @@ pub fn are_off_domain<F: ComplexExtendable, EF: ExtensionField<F>>(
     true
 }
 
-// The weights of a height and a point, where they were made.
-fn weights_at<'a, EF: Field>(
-    all: &'a [PointWeights<EF>],
-    log_height: usize,
-    point: EF,
-) -> Option<&'a LagrangeWeights<EF>>
-    ensures none { IsNone result →
-        All (λ w. w.log_height ≡ log_height → w.point ≢ point) all.now }
-    ensures some { IfSome result (λ found. Any (λ w. (w.log_height ≡ log_height)
-        × (w.point ≡ point) × (w.weights ≡ found.now)) all.now) }
-{
-    for known in all {
-        if known.log_height == log_height && known.point == point {
-            return Some(&known.weights);
-        }
-    }
-    None
-}
-
 // The domain of the first points of that of a height.
 pub(crate) fn first_domain<F: ComplexExtendable>(
     log_blowup: usize,
@@ -105,10 +76,33 @@ pub(crate) fn first_domain<F: ComplexExtendable>(
     CircleDomain::new(log_height - log_blowup, Point::generator(log_height + 1))
 }
 
+// The weights of a height and a point under a blowup, where they were made.
+fn weights_at<'a, F: ComplexExtendable, EF: ExtensionField<F>>(
+    all: &'a [PointWeights<F, EF>],
+    log_blowup: usize,
+    log_height: usize,
+    point: EF,
+) -> Option<&'a PointWeights<F, EF>>
+    ensures none { IsNone result → All (λ w. w.log_blowup ≡ log_blowup →
+        w.log_height ≡ log_height → w.point ≢ point) all.now }
+    ensures some { IfSome result (λ w. IsFor log_blowup log_height point w.now) }
+    ensures known { IfSome result (λ w. Any (IsFor log_blowup log_height point) all.now) }
+{
+    for known in all {
+        if known.log_blowup == log_blowup
+            && known.log_height == log_height
+            && known.point == point
+        {
+            return Some(known);
+        }
+    }
+    None
+}
+
 // Makes the weights of a height and a point, where there are none yet.
 fn add_weights<F: ComplexExtendable, EF: ExtensionField<F>>(
     alloc: Global,
-    all: &mut Vec<PointWeights<EF>>,
+    all: &mut Vec<PointWeights<F, EF>>,
     log_blowup: usize,
     log_height: usize,
     point: EF,
@@ -116,119 +110,102 @@ fn add_weights<F: ComplexExtendable, EF: ExtensionField<F>>(
     requires blowup { log_blowup < log_height }
     requires in_group { log_height < F.CIRCLE_TWO_ADICITY }
     requires finite { IsFinite EF.ops point }
-    requires off { IsOffDomain ⟦<EF as OverCircle<F>>⟧.fields log_height point }
-    requires right { All (AreWeightsOf ⟦<EF as OverCircle<F>>⟧.fields log_blowup) all.old.items }
-    ensures right { OnOk result
-        (All (AreWeightsOf ⟦<EF as OverCircle<F>>⟧.fields log_blowup) all.new.items) }
-    ensures known { OnOk result
-        (Any (λ w. (w.log_height ≡ log_height) × (w.point ≡ point)) all.new.items) }
-    ensures kept { OnOk result ((t : EF) → Any (λ w. (w.log_height ≡ log_height) × (w.point ≡ t))
-        all.old.items → Any (λ w. (w.log_height ≡ log_height) × (w.point ≡ t)) all.new.items) }
+    requires off { IsClearOf EF.ops EF.embed (domain_points F.ops F.generators log_height)
+        (from_line EF.ops point) }
+    ensures known { OnOk result (Any (IsFor log_blowup log_height point) all.new.items) }
+    ensures kept { OnOk result ((t : EF) → Any (IsFor log_blowup log_height t) all.old.items →
+        Any (IsFor log_blowup log_height t) all.new.items) }
 {
-    if weights_at(all, log_height, point).is_some() {
+    if weights_at(all, log_blowup, log_height, point).is_some() {
         return Ok(());
     }
     let at = Point::from_projective_line(point).unwrap();
     let weights = lagrange_weights(alloc, first_domain::<F>(log_blowup, log_height), at)?;
     all.push(PointWeights {
+        log_blowup,
         log_height,
         point,
         weights,
+        field: PhantomData,
     })?;
     Ok(())
 }
 
-// Makes the weights of a height at each of the points that has none yet.
-fn add_all_weights<F: ComplexExtendable, EF: ExtensionField<F>>(
-    alloc: Global,
-    all: &mut Vec<PointWeights<EF>>,
-    log_blowup: usize,
-    log_height: usize,
-    points: &[EF],
-) -> Result<(), AllocError>
-    requires blowup { log_blowup < log_height }
-    requires in_group { log_height < F.CIRCLE_TWO_ADICITY }
-    requires off { AreOff ⟦<EF as OverCircle<F>>⟧.fields log_height points.now }
-    requires right { All (AreWeightsOf ⟦<EF as OverCircle<F>>⟧.fields log_blowup) all.old.items }
-    ensures right { OnOk result
-        (All (AreWeightsOf ⟦<EF as OverCircle<F>>⟧.fields log_blowup) all.new.items) }
-    ensures known { OnOk result (All (λ t. Any (λ w. (w.log_height ≡ log_height) × (w.point ≡ t))
-        all.new.items) points.now) }
-{
-    for point in points {
-        add_weights(alloc, all, log_blowup, log_height, *point)?;
+impl<F: ComplexExtendable, EF: ExtensionField<F>> MatrixAtPoints<'_, F, EF> {
+    // Makes the weights of the matrix's height at each of its points that has none yet.
+    fn add_all_weights(
+        &self,
+        alloc: Global,
+        all: &mut Vec<PointWeights<F, EF>>,
+        log_blowup: usize,
+    ) -> Result<(), AllocError>
+        requires { log_blowup < self.now.log_height }
+        ensures { OnOk result (All (λ t. Any (IsFor log_blowup self.now.log_height t)
+            all.new.items) self.now.points.now) }
+    {
+        for point in self.points {
+            add_weights(alloc, all, log_blowup, self.log_height, *point)?;
+        }
+        Ok(())
     }
-    Ok(())
-}
 
-// The weights of a height at each of the points, lent.
-fn weights_at_each<'a, EF: Field>(
-    alloc: Global,
-    all: &'a [PointWeights<EF>],
-    log_height: usize,
-    points: &[EF],
-) -> Result<Vec<&'a LagrangeWeights<EF>>, AllocError>
-    requires known { All (λ t. Any (λ w. (w.log_height ≡ log_height) × (w.point ≡ t)) all.now)
-        points.now }
-    ensures { IfOk result (λ lent. AllZip (λ t found. Any (λ w. (w.log_height ≡ log_height)
-        × (w.point ≡ t) × (w.weights ≡ found.now)) all.now) points.now lent.items) }
-{
-    let mut lent = Vec::with_capacity(alloc, points.len())?;
-    for point in points {
-        lent.push(weights_at(all, log_height, *point).unwrap())?;
+    // The weights of the matrix's height at each of its points, lent.
+    fn weights_at_each<'a>(
+        &self,
+        alloc: Global,
+        all: &'a [PointWeights<F, EF>],
+        log_blowup: usize,
+    ) -> Result<Vec<&'a LagrangeWeights<EF>>, AllocError>
+        requires { All (λ t. Any (IsFor log_blowup self.now.log_height t) all.now)
+            self.now.points.now }
+        ensures { IfOk result (λ lent.
+            AllZip (AreWeightsFor self.now log_blowup) self.now.points.now lent.items) }
+    {
+        let mut lent = Vec::with_capacity(alloc, self.points.len())?;
+        for point in self.points {
+            let known = weights_at(all, log_blowup, self.log_height, *point).unwrap();
+            lent.push(&known.weights)?;
+        }
+        Ok(lent)
     }
-    Ok(lent)
-}
 
-// The values of a matrix's polynomials, by each of the weights of its height and a point.
-fn values_by_weights<F: ComplexExtendable, EF: ExtensionField<F>>(
-    alloc: Global,
-    log_blowup: usize,
-    log_height: usize,
-    matrix: &RowMajorMatrix<F>,
-    weights: &[&LagrangeWeights<EF>],
-) -> Result<Vec<Vec<EF>>, AllocError>
-    requires blowup { log_blowup < log_height }
-    requires in_group { log_height < F.CIRCLE_TWO_ADICITY }
-    requires rows { height_of matrix.now ≡ 2 ^ log_height }
-    requires count { All (λ w. length w.now.shares.items ≡ 2 ^ (log_height - log_blowup))
-        weights.now }
-    ensures { let k = ⟦<EF as OverCircle<F>>⟧.fields in IfOk result (λ made. AllZip (λ w. OpensBy k
-        log_blowup log_height matrix.now w.now) weights.now (map (λ v. v.items) made.items)) }
-{
-    let (first, _) = matrix.split_rows(1 << (log_height - log_blowup));
-    let domain = first_domain::<F>(log_blowup, log_height);
-    CircleEvaluations::from_cfft_order(domain, first).evaluate_by_each_weights(alloc, weights)
-}
+    // The values of the matrix's polynomials, by the weights of its height and its points.
+    fn values_by_weights(
+        &self,
+        alloc: Global,
+        log_blowup: usize,
+        weights: &[&LagrangeWeights<EF>],
+    ) -> Result<Vec<Vec<EF>>, AllocError>
+        requires blowup { log_blowup < self.now.log_height }
+        requires right { AllZip (AreWeightsFor self.now log_blowup) self.now.points.now weights.now }
+        ensures count { IfOk result (λ made. length made.items ≡ length self.now.points.now) }
+        ensures values { IfOk result (λ made.
+            AreValuesAt self.now log_blowup (map (λ v. v.items) made.items)) }
+    {
+        let (first, _) = self.rows.split_rows(1 << (self.log_height - log_blowup));
+        let domain = first_domain::<F>(log_blowup, self.log_height);
+        CircleEvaluations::from_cfft_order(domain, first).evaluate_by_each_weights(alloc, weights)
+    }
 
-/// At each of the points the values of the polynomials that the first rows of a committed matrix
-/// fix, `2^(log_height - log_blowup)` of its rows (section 4.3). The Lagrange polynomials that are
-/// made are added to `all`, where those of other matrices are found; the rows are gone over once
-/// for all points.
-///
-/// Requires `log_blowup < log_height < CIRCLE_TWO_ADICITY`, a matrix of `2^log_height` rows, points
-/// that are off its domain, as [`are_off_domain`] tests, and in `all` weights that this function
-/// made for the same blowup. Fails where memory is refused.
-pub fn opened_values<F: ComplexExtendable, EF: ExtensionField<F>>(
-    alloc: Global,
-    all: &mut Vec<PointWeights<EF>>,
-    log_blowup: usize,
-    log_height: usize,
-    matrix: &RowMajorMatrix<F>,
-    points: &[EF],
-) -> Result<Vec<Vec<EF>>, AllocError>
-    requires blowup { log_blowup < log_height }
-    requires in_group { log_height < F.CIRCLE_TWO_ADICITY }
-    requires rows { height_of matrix.now ≡ 2 ^ log_height }
-    requires off { AreOff ⟦<EF as OverCircle<F>>⟧.fields log_height points.now }
-    requires right { All (AreWeightsOf ⟦<EF as OverCircle<F>>⟧.fields log_blowup) all.old.items }
-    ensures right { OnOk result
-        (All (AreWeightsOf ⟦<EF as OverCircle<F>>⟧.fields log_blowup) all.new.items) }
-    ensures count { IfOk result (λ made. length made.items ≡ length points.now) }
-    ensures values { IfOk result (λ made. AreOpened ⟦<EF as OverCircle<F>>⟧.fields log_blowup
-        log_height matrix.now points.now (map (λ v. v.items) made.items)) }
-{
-    add_all_weights(alloc, all, log_blowup, log_height, points)?;
-    let weights = weights_at_each(alloc, all, log_height, points)?;
-    values_by_weights(alloc, log_blowup, log_height, matrix, &weights)
+    /// At each of the points the values of the polynomials that the first rows of the matrix fix,
+    /// `2^(log_height - log_blowup)` of its rows (section 4.3). The Lagrange polynomials that are
+    /// made are added to `all`, where those of other matrices are found; the rows are gone over
+    /// once for all points.
+    ///
+    /// Requires `log_blowup < log_height`. Fails where memory is refused.
+    pub fn opened_values(
+        &self,
+        alloc: Global,
+        all: &mut Vec<PointWeights<F, EF>>,
+        log_blowup: usize,
+    ) -> Result<Vec<Vec<EF>>, AllocError>
+        requires { log_blowup < self.now.log_height }
+        ensures count { IfOk result (λ made. length made.items ≡ length self.now.points.now) }
+        ensures values { IfOk result (λ made.
+            AreValuesAt self.now log_blowup (map (λ v. v.items) made.items)) }
+    {
+        self.add_all_weights(alloc, all, log_blowup)?;
+        let weights = self.weights_at_each(alloc, all, log_blowup)?;
+        self.values_by_weights(alloc, log_blowup, &weights)
+    }
 }

@@ -3,10 +3,11 @@ ghost use Rattle.std.specs.Prelude.{◌≡◌, ◌≢◌, ◌≤◌, ◌<◌, �
 ghost use Rattle.circle_commit.specs.RowMajorMatrix.{height_of};
 ghost use Rattle.circle_commit.specs.Matrix.{IsPowerOfTwo};
 ghost use Rattle.circle_domain.specs.Domain.{IsGenuineDomain, log_size};
+ghost use Rattle.circle_field.specs.Mersenne31.{operations};
 ghost use Rattle.circle_plane.specs.CircleEvaluations.{domain_of};
 
 use circle_commit::{Matrix, RowMajorMatrix, is_power_of_two};
-use circle_field::{ExtensionField, Field, Mersenne31, Operations};
+use circle_field::{ExtensionField, Field, Mersenne31};
 use circle_plane::{CircleDomain, CircleEvaluations};
 use std::alloc::Global;
 use std::process::Abort;
@@ -68,8 +69,7 @@ pub(crate) fn plain_entry<EF: ExtensionField<Mersenne31>>(
 
 // Whether no element is 0.
 pub(crate) fn are_nonzero(elements: &[Mersenne31]) -> bool
-    ensures { IsTrue result
-        → All (λ element. element ≢ ⟦<Mersenne31 as Operations>⟧.ops.zero) elements.now }
+    ensures { IsTrue result → All (λ element. element ≢ operations.zero) elements.now }
 {
     elements.iter().all(|element| !element.is_zero())
 }
@@ -86,8 +86,7 @@ pub(crate) fn is_in_group(domain: Domain) -> bool
 pub(crate) fn is_genuine(domain: Domain) -> bool
     ensures positive { IsTrue result → 1 ≤ log_size domain }
     ensures in_group { IsTrue result → log_size domain ≤ 31 }
-    ensures genuine { IsTrue result
-        → IsGenuineDomain ⟦<Mersenne31 as Operations>⟧.ops domain }
+    ensures genuine { IsTrue result → IsGenuineDomain operations domain }
 {
     is_in_group(domain) && domain.is_genuine()
 }
@@ -112,7 +111,7 @@ pub(crate) fn evaluations(
     ensures domain { domain_of result ≡ domain }
     ensures positive { 1 ≤ log_size (domain_of result) }
     ensures in_group { log_size (domain_of result) ≤ 31 }
-    ensures genuine { IsGenuineDomain ⟦<Mersenne31 as Operations>⟧.ops (domain_of result) }
+    ensures genuine { IsGenuineDomain operations (domain_of result) }
 {
     let copy = copy_of(rt, alloc, rows);
     assert!(rt; is_genuine(domain) && copy.height() == domain.size());

@@ -1,8 +1,7 @@
 //! What a committed column is opened to, over Mersenne31 and its cubic extension.
 use crate::off_domain::{cubic, on_line};
 use crate::transform::{MEMORY, Rows, column};
-use circle_codewords::{are_off_domain, opened_values};
-use circle_commit::Matrix;
+use circle_codewords::MatrixAtPoints;
 use circle_field::{Cubic, Field, Mersenne31};
 use circle_plane::Point;
 use std::alloc::Global;
@@ -15,7 +14,7 @@ const EIGHT_BY_PAIRS: [u64; 8] = [
     1581940626, 1962669500, 565411951, 184945221, 1754305948, 1969764645, 393308773, 177587932,
 ];
 
-// `opened_values` twice, after a test of what it requires. The second time no weights are added.
+// The opened values twice, after a test of what they require. The second time no weights are added.
 fn opened(
     rt: &impl Abort,
     alloc: Global,
@@ -24,16 +23,19 @@ fn opened(
     rows: &Rows,
     points: &[Cubic],
 ) -> Vec<Vec<Cubic>> {
-    assert!(rt; log_height < 31 && log_blowup < log_height && rows.height() == 1 << log_height);
-    assert!(rt; are_off_domain::<Mersenne31, Cubic>(log_height, points));
+    assert!(rt; log_blowup < log_height);
+    let matrix = MatrixAtPoints::<Mersenne31, Cubic>::new(log_height, rows, points).expect(
+        rt,
+        "the matrix can be opened at the points",
+    );
     let mut all = Vec::new(alloc);
-    let values = opened_values(alloc, &mut all, log_blowup, log_height, rows, points).expect(
-        rt, MEMORY,
-    );
+    let values = matrix
+        .opened_values(alloc, &mut all, log_blowup)
+        .expect(rt, MEMORY);
     let added = all.len();
-    let again = opened_values(alloc, &mut all, log_blowup, log_height, rows, points).expect(
-        rt, MEMORY,
-    );
+    let again = matrix
+        .opened_values(alloc, &mut all, log_blowup)
+        .expect(rt, MEMORY);
     expect!(rt; added == points.len());
     expect!(rt; all.len() == added);
     expect!(rt; values.as_slice() == again.as_slice());

@@ -1,7 +1,6 @@
-use Rattle.std.proofs.Common.{◌≡◌, ◌≤◌, ◌-◌, ◌+◌, ◌^◌, ◌∙◌, refl, sym, ap, subst, arith, ℕ}
+use Rattle.std.proofs.Common.{◌≡◌, ◌≤◌, ◌-◌, ◌+◌, ◌^◌, ◌∙◌, refl, sym, ap, subst, arith, ℕ, List}
 use Rattle.std.specs.Prelude.{IfSome}
 use Rattle.std.specs.List.{Any}
-use Rattle.std.proofs.lemmas.List.Elements.{All-same, All-push}
 use Rattle.circle_field.specs.Circle.{Coordinates}
 use Rattle.circle_point.specs.Point.{coordinates}
 use Rattle.circle_point.specs.Projective.{from_line}
@@ -9,21 +8,19 @@ use Rattle.circle_domain.specs.Clear.{IsClearOf}
 use Rattle.circle_domain.specs.Domain.{shift_of}
 use Rattle.circle_domain.specs.Lagrange.{AreLagrangeWeights}
 use Rattle.circle_domain.specs.Order.{IsGenuine, natural_order, cfft_order}
-use Rattle.circle_relation.specs.Accepts.{Fields}
-use Rattle.circle_codewords.specs.Values.{AreWeightsOf}
-use Rattle.circle_codewords.specs.declared.values.PointWeights.{PointWeights}
-use Rattle.circle_codewords.proofs.Known.{any-kept, any-last, weights-of}
+use Rattle.circle_codewords.specs.OfMatrices.{IsFor}
+use Rattle.circle_codewords.specs.declared.matrix.PointWeights.{PointWeights}
+use Rattle.circle_codewords.proofs.Known.{any-kept, any-last, of-some}
 use Rattle.circle_codewords.proofs.Prefix.{first-genuine, first-clear}
 use Rattle.circle_codewords.proofs.values.add_weights.Goals as goal
 
 pub returns-then-is_some-clause-known : goal.returns-then-is_some-clause-known
 returns-then-is_some-clause-known g c =
-    weights-of c.weights_at.result c.args.all.now.items c.args.log_height c.args.point
-    (sym c.is_some.ensures ∙ c.if-is_some.true)
-    (subst
-    (λ xs. IfSome c.weights_at.result
-    (λ found. Any (λ w. (w.log_height ≡ c.args.log_height) × (w.point ≡ c.args.point)
-    × (w.weights ≡ found.now)) xs)) c.deref.ensures.value c.weights_at.ensures.some)
+    let Known : List (PointWeights g.row.F.Denot g.row.EF.Denot _) → Type 0 =
+    Any (IsFor c.args.log_blowup c.args.log_height c.args.point) in
+    subst Known c.deref.ensures.value
+    (of-some c.weights_at.result (Known c.deref.result.now)
+    (sym c.is_some.ensures ∙ c.if-is_some.true) c.weights_at.ensures.known)
 
 pub lagrange_weights-requires-clause-genuine : goal.lagrange_weights-requires-clause-genuine
 lagrange_weights-requires-clause-genuine g c =
@@ -61,65 +58,36 @@ lagrange_weights-requires-clause-clear g c =
     (gens.on_circle (h + 1) within) at.on_circle
     (subst (IsClearOf l embed (natural_order k gen h (gen (h + 1)))) (sym is) c.requires.off)))
 
-pub returns-clause-right : goal.returns-clause-right
-returns-clause-right g c =
-    let k : Fields g.row.F.Denot g.row.EF.Denot =
-    record {
-      field = g.F.Operations.ops;
-      gen = g.F.ComplexExtendable.generators;
-      two_adicity =
-          g.F.ComplexExtendable.CIRCLE_TWO_ADICITY;
-      is_zero = λ w. g.F.PartialEq.eq w g.F.Field.ZERO;
-      extension = g.EF.Operations.ops;
-      embed = g.EF.ExtensionField.embed;
-      same =
-          g.EF.PartialEq.eq;
-    } in
+pub invariant_of-push : goal.invariant_of-push
+invariant_of-push g c =
+    let k = g.F.Operations.ops in
+    let gen = g.F.ComplexExtendable.generators in
+    let l = g.EF.Operations.ops in
     let h = c.args.log_height in
-    let n = h - c.args.log_blowup in
     let weights = c.in_ok-weights.weights in
-    let made : PointWeights g.row.EF.Denot =
-    record { log_height = h; point = c.args.point; weights = weights } in
     let at = c.unwrap-at.result in
-    let is : coordinates at ≡ from_line k.extension c.args.point =
-    subst (λ o. IfSome o (λ p. coordinates p ≡ from_line k.extension c.args.point))
-    c.unwrap-at.ensures c.from_projective_line.ensures.point in
+    let is : coordinates at ≡ from_line l c.args.point =
+    subst (λ o. IfSome o (λ p. coordinates p ≡ from_line l c.args.point)) c.unwrap-at.ensures
+    c.from_projective_line.ensures.point in
     let Sum : ℕ → Coordinates g.row.F.Denot → Coordinates g.row.EF.Denot → Type 0 =
-    λ m s q. AreLagrangeWeights k.extension k.embed k.field m (cfft_order k.field k.gen m s) q
+    λ m s q. AreLagrangeWeights l g.EF.ExtensionField.embed k m (cfft_order k gen m s) q
     weights.shares.items weights.scale in
-    All-same (AreWeightsOf k c.args.log_blowup) _ _ c.in_ok-push.ensures.items
-    (All-push (AreWeightsOf k c.args.log_blowup) c.args.all.now.items made c.requires.right record {
+    record {
       count = c.in_ok-weights.ensures.count ∙ ap (λ m. 2 ^ m) c.first_domain.ensures.size;
-      sum =
-          subst (Sum n (k.gen (h + 1))) is
-          (subst (λ s. Sum n s (coordinates at)) c.first_domain.ensures.shift
+      right =
+          subst (Sum (h - c.args.log_blowup) (gen (h + 1))) is
+          (subst (λ s. Sum (h - c.args.log_blowup) s (coordinates at)) c.first_domain.ensures.shift
           (subst (λ m. Sum m (shift_of c.first_domain.result) (coordinates at))
           c.first_domain.ensures.size c.in_ok-weights.ensures.sum));
-    })
+    }
 
 pub returns-clause-known : goal.returns-clause-known
 returns-clause-known g c =
-    let Is : PointWeights g.row.EF.Denot → Type 0 = λ w. (w.log_height ≡ c.args.log_height)
-    × (w.point ≡ c.args.point) in
-    let made : PointWeights g.row.EF.Denot =
-    record {
-      log_height = c.args.log_height;
-      point = c.args.point;
-      weights =
-          c.in_ok-weights.weights;
-    } in
+    let Is = IsFor c.args.log_blowup c.args.log_height c.args.point in
     subst (Any Is) (sym c.in_ok-push.ensures.items)
-    (any-last Is c.args.all.now.items made (refl, refl))
+    (any-last Is c.args.all.now.items _ (refl, refl, refl))
 
 pub returns-clause-kept : goal.returns-clause-kept
 returns-clause-kept g c = λ t known.
-    let Is : PointWeights g.row.EF.Denot → Type 0 = λ w. (w.log_height ≡ c.args.log_height)
-    × (w.point ≡ t) in
-    let made : PointWeights g.row.EF.Denot =
-    record {
-      log_height = c.args.log_height;
-      point = c.args.point;
-      weights =
-          c.in_ok-weights.weights;
-    } in
-    subst (Any Is) (sym c.in_ok-push.ensures.items) (any-kept Is c.args.all.now.items made known)
+    let Is = IsFor c.args.log_blowup c.args.log_height t in
+    subst (Any Is) (sym c.in_ok-push.ensures.items) (any-kept Is c.args.all.now.items _ known)
