@@ -14,6 +14,7 @@ use Rattle.circle_relation.specs.Statement.{BatchClaim, MatrixClaim, OpeningProo
 use Rattle.circle_transcript.specs.Draw.{Drawn, Taken, claimed, closed, draw_seeded, drawn, layered}
 use Rattle.circle_transcript.specs.Draw.{rounds_pass}
 use Rattle.circle_transcript.specs.declared.transcript.Numbers.{Numbers}
+use Rattle.circle_transcript.proofs.Phases.{draw_is}
 
 -- numbers of `width` bits are below 2^width
 all-below : {S : Type 0} (width : ℕ) (next : S → S) (bits_of : S → ℕ) →
@@ -44,12 +45,11 @@ chosen false b c v w x y z is = cc
 -- what is drawn where nothing is refused
 pub drawn-is : {C S F E Com : Type 0} (r : RunMoves C S F E Com) (n : Numbers) (t : Taken F E Com)
     (s : S) (d : Drawn S F) → draw_seeded r n t s ≡ Ok d → drawn r n t s ≡ d
-unfolding draw_seeded
 drawn-is r n t s d is =
     chosen (is_passed r.base (claimed r n t s) n.batch_pow_bits t.batch_witness)
     (rounds_pass r n.commit_pow_bits (after_element r.base (layered r n t s)) t.rounds)
     (is_passed r.base (closed r n t s) n.query_pow_bits t.query_witness)
-    (drawn r n t s) d Query CommitPhase Batch is
+    (drawn r n t s) d Query CommitPhase Batch (sym (draw_is r n t s) ∙ is)
 
 -- what describes and enters a run depends on the claims alone, and not on the commitments
 abbrev pub parts : {Com E : Type 0} → List (BatchClaim Com E) → List (List (MatrixClaim E))

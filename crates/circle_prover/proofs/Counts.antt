@@ -1,13 +1,14 @@
 -- How much a run draws.
 use Rattle.std.specs.Prelude.{◌≡◌, ℕ, Bool, true, false, if◌then◌else◌, List, [], ◌∷◌, length, Ok}
 use Rattle.std.specs.Prelude.{Err}
-use Rattle.std.proofs.Common.{suc, refl, ap, ◌∙◌}
+use Rattle.std.proofs.Common.{suc, refl, sym, ap, ◌∙◌}
 use Rattle.circle_challenger.specs.Moves.{RunMoves, after_element, is_passed}
 use Rattle.circle_challenger.proofs.Draws.{length-samples}
 use Rattle.circle_commit.specs.declared.params.PowPhase.TheVariants.{Batch, CommitPhase, Query}
 use Rattle.circle_transcript.specs.Draw.{Drawn, Taken, after_round, claimed, closed, draw_seeded}
 use Rattle.circle_transcript.specs.Draw.{drawn, fold_challenges, layered, rounds_pass}
 use Rattle.circle_transcript.specs.declared.transcript.Numbers.{Numbers}
+use Rattle.circle_transcript.proofs.Phases.{draw_is}
 
 -- what is drawn
 pick : {S F : Type 0} (a b c : Bool) (d x : Drawn S F) →
@@ -29,11 +30,11 @@ module _ {C S F E Com : Type 0} (m : RunMoves C S F E Com) where
   module _ (n : Numbers) (t : Taken F E Com) (s : S) (x : Drawn S F)
       (is : draw_seeded m n t s ≡ Ok x) where
     drawn-is : x ≡ drawn m n t s
-    unfolding draw_seeded
     drawn-is =
         pick (is_passed m.base (claimed m n t s) n.batch_pow_bits t.batch_witness)
         (rounds_pass m n.commit_pow_bits (after_element m.base (layered m n t s)) t.rounds)
-        (is_passed m.base (closed m n t s) n.query_pow_bits t.query_witness) (drawn m n t s) x is
+        (is_passed m.base (closed m n t s) n.query_pow_bits t.query_witness) (drawn m n t s) x
+        (sym (draw_is m n t s) ∙ is)
 
     -- a challenge for each round, and the due number of queries
     pub betas-count : length x.betas ≡ length t.rounds

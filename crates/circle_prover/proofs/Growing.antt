@@ -1,6 +1,6 @@
 -- Codewords and rounds that are pushed one after another.
 use Rattle.std.specs.Prelude.{◌≡◌, ℕ, ◌+◌, ◌-◌, ◌/◌, ◌%◌, ◌^◌, ◌<◌, ◌≤◌, ◌++◌, List, [], ◌∷◌}
-use Rattle.std.specs.Prelude.{length, map, zip, All, Some, IsTrue, slice_get, slice_index_or}
+use Rattle.std.specs.Prelude.{length, map, zip, All, Ok, Some, slice_get, slice_index_or}
 use Rattle.std.proofs.Common.{zero, suc, inl, inr, refl, sym, ◌∙◌, ap, subst, arith}
 use Rattle.std.proofs.lemmas.Bool.{cases_lt}
 use Rattle.std.proofs.lemmas.List.{length_push, get_or_append_left}
@@ -8,15 +8,16 @@ use Rattle.std.proofs.lemmas.List.Elements.{All-push, All-nil}
 use Rattle.std.proofs.lemmas.Nat.{pow_pos}
 use Rattle.std.proofs.lemmas.Option.{slice_get_within, same_Some}
 use Rattle.std.proofs.Math.Seq.{get_or-append_seam}
-use Rattle.circle_challenger.specs.Moves.{RunMoves, found_at, is_passed}
+use Rattle.circle_challenger.specs.Moves.{RunMoves, found_at}
 use Rattle.circle_commit.specs.RowFacts.{length-rows_from}
 use Rattle.circle_commit.specs.RowMajorMatrix.{rows}
 use Rattle.circle_commit.specs.declared.matrix.RowMajorMatrix.{RowMajorMatrix}
 use Rattle.circle_relation.specs.Accepts.{Fields}
-use Rattle.circle_transcript.specs.Draw.{AreFound, after_round, fold_challenge, after_rounds}
-use Rattle.circle_transcript.specs.Draw.{fold_challenges, rounds_pass}
+use Rattle.circle_transcript.specs.Draw.{AreFound, after_round, after_rounds, commit_round}
+use Rattle.circle_transcript.specs.Draw.{play_rounds}
 use Rattle.circle_transcript.specs.Runs.{NonePasses}
-use Rattle.circle_transcript.proofs.Runs.{one_more, zip-append}
+use Rattle.circle_transcript.proofs.Phases.{told}
+use Rattle.circle_transcript.proofs.Runs.{rounds_more as one_more, zip-append}
 use Rattle.circle_codewords.specs.Words.{next_word, pairs_of}
 use Rattle.circle_codewords.proofs.Pairs.{twice-half}
 use Rattle.circle_prover.specs.Failure.{IsStuckAfter}
@@ -206,14 +207,12 @@ module _ {C S F E Com : Type 0} (r : RunMoves C S F E Com) (bits : ℕ) (begun n
   -- no rounds were played
   pub played_begun : (commitments : List Com) (witnesses : List F) (ys : List (List F)) →
       commitments ≡ [] → ys ≡ [] → HavePlayed r bits now now (zip commitments witnesses) ys
-  unfolding after_rounds fold_challenges rounds_pass
+  unfolding play_rounds
   played_begun commitments witnesses ys none none_too =
       let empty : zip commitments witnesses ≡ [] = ap (λ v. zip v witnesses) none in
       record {
         found = subst (AreFound r bits now) (sym empty) tt;
-        passes = ap (rounds_pass r bits now) empty;
-        challenges = none_too ∙ sym (ap (fold_challenges r bits now) empty);
-        state = sym (ap (after_rounds r bits now) empty);
+        played = ap (play_rounds r bits now) empty ∙ ap (λ v. Ok (v, now)) (sym none_too);
       }
 
   -- one more round was played
@@ -223,20 +222,16 @@ module _ {C S F E Com : Type 0} (r : RunMoves C S F E Com) (bits : ℕ) (begun n
       witnesses' ≡ witnesses ++ witness ∷ [] → b ≡ bits
       → HavePlayed r bits begun now (zip commitments witnesses) ys →
       found_at r.base (r.after_commitment now commitment) b ≡ Some witness →
-      IsTrue (is_passed r.base (r.after_commitment now commitment) b witness)
-      → y ≡ fold_challenge r b now (commitment, witness) → zs ≡ ys ++ y ∷ [] →
-      after ≡ after_round r b now (commitment, witness)
+      commit_round r b now commitment witness ≡ Ok (y, after) → zs ≡ ys ++ y ∷ []
       → HavePlayed r bits begun after (zip commitments' witnesses') zs
   played_more commitments commitments' witnesses witnesses' commitment witness ys zs y after b
-      paired is_commitments is_witnesses same before found passes drawn pushed state =
+      paired is_commitments is_witnesses same before found drawn pushed =
       let more : zip commitments' witnesses' ≡ zip commitments witnesses ++ (commitment, witness) ∷
       [] =
       ap (λ v. zip v witnesses') is_commitments
       ∙ ap (zip (commitments ++ commitment ∷ [])) is_witnesses
       ∙ zip-append commitments (commitment ∷ []) witnesses (witness ∷ []) paired in
-      let next = one_more r bits begun now (zip commitments witnesses) (zip commitments' witnesses')
-      (commitment, witness) more before.state ys zs y after b same before.passes
-      before.challenges passes drawn pushed state in
+      let known = told r bits begun now (zip commitments witnesses) ys before.played in
       let last : found_at r.base
       (r.after_commitment (after_rounds r bits begun (zip commitments witnesses)) commitment)
       bits ≡ Some witness =
@@ -244,16 +239,15 @@ module _ {C S F E Com : Type 0} (r : RunMoves C S F E Com) (bits : ℕ) (begun n
       (λ k. found_at r.base
       (r.after_commitment (after_rounds r bits begun (zip commitments witnesses)) commitment) k
       ≡ Some witness) same
-      (subst (λ t. found_at r.base (r.after_commitment t commitment) b ≡ Some witness) before.state
+      (subst (λ t. found_at r.base (r.after_commitment t commitment) b ≡ Some witness) known.state
       found) in
       record {
         found =
             subst (AreFound r bits begun) (sym more)
             (found-append r bits begun (zip commitments witnesses) ((commitment, witness) ∷ [])
             before.found (last, tt));
-        passes = next.passes;
-        challenges = next.challenges;
-        state = next.state;
+        played = one_more r bits begun now (zip commitments witnesses) ys (commitment, witness) b
+            same before.played (zip commitments' witnesses') zs y after more drawn pushed;
       }
 
   -- where none passes after the commitment of the next codeword
@@ -267,16 +261,18 @@ module _ {C S F E Com : Type 0} (r : RunMoves C S F E Com) (bits : ℕ) (begun n
         → (commitment : Com) → IsCommitmentOf Commits (pairs_of here ∷ []) commitment →
         NonePasses r.base (r.after_commitment now commitment) b →
         IsStuckAfter r Commits bits begun word count
-    stuck_after same before committed fewer here is commitment next none = record {
-      rounds = rounds;
-      betas = betas;
-      played = record { found = before.found; drawn = before.challenges; committed = committed };
-      fewer = fewer;
-      commitment = commitment;
-      next = subst (λ w. IsCommitmentOf Commits (pairs_of w ∷ []) commitment) is next;
-      none =
-          subst
-          (λ k. NonePasses r.base (r.after_commitment (after_rounds r bits begun rounds) commitment)
-          k) same
-          (subst (λ t. NonePasses r.base (r.after_commitment t commitment) b) before.state none);
-    }
+    stuck_after same before committed fewer here is commitment next none =
+        let known = told r bits begun now rounds (map r.base.coefficients betas) before.played in
+        record {
+          rounds = rounds;
+          betas = betas;
+          played = record { found = before.found; drawn = known.challenges; committed = committed };
+          fewer = fewer;
+          commitment = commitment;
+          next = subst (λ w. IsCommitmentOf Commits (pairs_of w ∷ []) commitment) is next;
+          none =
+              subst
+              (λ k. NonePasses r.base
+              (r.after_commitment (after_rounds r bits begun rounds) commitment) k) same
+              (subst (λ t. NonePasses r.base (r.after_commitment t commitment) b) known.state none);
+        }

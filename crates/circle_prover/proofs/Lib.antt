@@ -13,6 +13,7 @@ pub mod Requested
 pub mod Seen
 pub mod Sided
 pub mod Stuck
+pub mod TallMatrices
 pub mod Threes
 pub mod Tops
 pub mod Unrefused

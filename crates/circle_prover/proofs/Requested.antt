@@ -1,30 +1,24 @@
 -- The matrices of a request side by side with their points and the values there.
-use Rattle.std.specs.Prelude.{◌≡◌, ℕ, ◌+◌, ◌*◌, ◌^◌, ◌<◌, ◌≤◌, List, [], ◌∷◌, ◌++◌, length, map}
+use Rattle.std.specs.Prelude.{◌≡◌, ℕ, ◌+◌, ◌^◌, ◌<◌, List, [], ◌∷◌, ◌++◌, length, map}
 use Rattle.std.specs.Prelude.{flat_map, take, zip, All, Vec, min, slice_index_or}
 use Rattle.std.specs.List.{AllZip}
 use Rattle.std.specs.declared.alloc.Global.{Global}
-use Rattle.std.proofs.Common.{zero, suc, refl, sym, ◌∙◌, ap, subst, arith, mul-le-mul_right, Bool}
-use Rattle.std.proofs.Common.{true, false, cond, ◌⊎◌, inl, inr, ⊎_elim, nat_lt, ◌==◌, nat_cmp, Less}
-use Rattle.std.proofs.Common.{Equal, Greater, is_lt}
-use Rattle.std.specs.Ordering.{ord_max}
-use Rattle.std.proofs.lemmas.Bool.{cases_lt, lt-ltb, le-ltb}
+use Rattle.std.proofs.Common.{zero, suc, refl, sym, ◌∙◌, ap, subst, arith}
 use Rattle.std.proofs.lemmas.List.{length-map, map_more, get_or-map, get_or_default, map-append}
 use Rattle.std.proofs.lemmas.List.{append_assoc, append-nil}
 use Rattle.std.proofs.lemmas.List.FromFn.{length-map-range_with_len}
 use Rattle.std.proofs.lemmas.Slice.Zip.{length-zip, get_or-zip}
-use Rattle.circle_commit.specs.RowMajorMatrix.{rows, width_of, height_of, length-values}
+use Rattle.circle_commit.specs.RowMajorMatrix.{rows, width_of, height_of}
 use Rattle.circle_commit.specs.declared.matrix.RowMajorMatrix.{RowMajorMatrix}
 use Rattle.circle_commit.specs.Mmcs.{opened_rows}
-use Rattle.std.proofs.lemmas.Nat.{pow_pos}
-use Rattle.circle_domain.specs.Selectors.{IsFinite}
 use Rattle.circle_commit.specs.DotProduct.{pairwise}
 use Rattle.circle_relation.specs.Accepts.{Fields}
 use Rattle.circle_relation.specs.Statement.{PointClaim}
 use Rattle.circle_codewords.specs.Lifts.{read_rows}
-use Rattle.circle_codewords.specs.Values.{AreOff, AreOpened}
+use Rattle.circle_codewords.specs.Values.{AreOff, AreOpened, CanBeOpened}
 use Rattle.circle_codewords.specs.Words.{Committed, claim_of, committed_of}
-use Rattle.circle_codewords.specs.declared.reduced.OpenedMatrix.{OpenedMatrix}
-use Rattle.circle_codewords.specs.Requests.{IsOpenable, IsReady, AreValuesOf, batch_committed}
+use Rattle.circle_codewords.specs.declared.matrix.OpenedMatrix.{OpenedMatrix}
+use Rattle.circle_codewords.specs.Requests.{IsOpenable, AreValuesOf, batch_committed}
 use Rattle.circle_codewords.specs.Requests.{committed, lists_of, log_of}
 
 module _ {A B : Type 0} where
@@ -143,13 +137,6 @@ parts-more f g h xs i x old new w lt is pushed made so_far =
     ∙ sym (ap (map f) (map_more g xs i x lt)
     ∙ map-append f (map g (take i xs)) (g (slice_index_or xs i x) ∷ []))
 
--- a matrix of some row isn't wider than memory has room
-pub width-fits : {T : Type 0} (m : RowMajorMatrix T) → 1 ≤ height_of m →
-    width_of m < 9223372036854775808
-width-fits m some =
-    let least : 1 * width_of m ≤ height_of m * width_of m = mul-le-mul_right (width_of m) some in
-    omega (arith, least, length-values m, m.values.ok.0, m.values.ok.1, m.values.small)
-
 -- after some items, one more of those that follow
 pub more-after : {A B : Type 0} (f : A → B) (old : List B) (b : B) (first : List B) (xs : List A)
     (x : A) → old ≡ first ++ map f xs → b ≡ f x → old ++ b ∷ [] ≡ first ++ map f (xs ++ x ∷ [])
@@ -170,23 +157,6 @@ pub flat-more : {A B C : Type 0} (f : B → List C) (g : A → B) (xs : List A) 
 flat-more f g xs i x lt is =
     ap (flat_map f) (map_more g xs i x lt ∙ ap (λ v. map g (take i xs) ++ g v ∷ []) (sym is))
     ∙ flat-push f (map g (take i xs)) (g x)
-
--- the greater of two numbers
-max-is : (a b : ℕ) (s t : Bool) → cond (is_lt (cond s Less (cond t Equal Greater))) a b ≡ cond s a b
-max-is a b true t = refl
-max-is a b false true = refl
-max-is a b false false = refl
-
-pub max-of : (a b m : ℕ) → m ≡ ord_max nat_cmp a b → (a ≤ m) × (b ≤ m) × ((m ≡ a) ⊎ (m ≡ b))
-max-of a b m e =
-    ⊎_elim
-    (λ less. let is : m ≡ a = e ∙ max-is a b (nat_lt b a) (b == a)
-    ∙ ap (λ s. cond s a b) (lt-ltb b a less) in
-    (omega (arith, is), omega (arith, is, less), inl is))
-    (λ other. let is : m ≡ b = e ∙ max-is a b (nat_lt b a) (b == a)
-    ∙ ap (λ s. cond s a b) (le-ltb b a other) in
-    (omega (arith, is, other), omega (arith, is), inr is))
-    (cases_lt b a)
 
 module _ {F E : Type 0} (k : Fields F E) (blowup : ℕ) where
   -- a matrix of a batch and its points
@@ -261,7 +231,7 @@ module _ {F E : Type 0} (k : Fields F E) (blowup : ℕ) where
   made-of h m ps claims =
       record { log_height = h; rows = read_rows k blowup h (width_of m) (rows m); claims = claims }
 
-  pub committed-is : (o : OpenedMatrix F E) (m : RowMajorMatrix F) (ps : List E)
+  committed-is : {over : _} (o : OpenedMatrix F E over) (m : RowMajorMatrix F) (ps : List E)
       (vs : List (Vec E Global)) → o.log_height ≡ log_of (height_of m) → o.rows.now ≡ m →
       o.points.now ≡ ps → o.values.now ≡ vs →
       committed_of k blowup o ≡ committed k blowup m ps (lists_of vs)
@@ -276,21 +246,22 @@ module _ {F E : Type 0} (k : Fields F E) (blowup : ℕ) where
       ∙ pairwise-map claim_of (λ v. v.items) ps vs)
 
   -- one more matrix of a batch
-  pub committed-more : (ms : List (RowMajorMatrix F)) (points : List (Vec E Global))
-      (values : List (Vec (Vec E Global) Global)) (i n : ℕ) (o : OpenedMatrix F E)
+  pub committed-more : {over : _} (ms : List (RowMajorMatrix F)) (points : List (Vec E Global))
+      (values : List (Vec (Vec E Global) Global)) (i n : ℕ) (o : OpenedMatrix F E over)
       (m : RowMajorMatrix F) (p : Vec E Global) (v : Vec (Vec E Global) Global)
-      (first : List (Committed F E)) (old new : List (OpenedMatrix F E)) → n ≡ i + 1 →
+      (first : List (Committed F E)) (old new : List (OpenedMatrix F E over)) → n ≡ i + 1 →
       i < length ms → i < length points → i < length values → m ≡ slice_index_or ms i m →
       p ≡ slice_index_or points i p → v ≡ slice_index_or values i v →
-      new ≡ old ++ o ∷ [] → committed_of k blowup o
-      ≡ committed k blowup m p.items (lists_of v.items) → map (committed_of k blowup) old
+      new ≡ old ++ o ∷ [] → o.log_height ≡ log_of (height_of m) → o.rows.now ≡ m →
+      o.points.now ≡ p.items → o.values.now ≡ v.items → map (committed_of k blowup) old
       ≡ first ++ batch_committed k blowup (take i ms) (take i (lists_of points))
       (take i (opened_rows values)) →
       map (committed_of k blowup) new ≡ first
       ++ batch_committed k blowup (take n ms) (take n (lists_of points))
       (take n (opened_rows values))
-  committed-more ms points values i n o m p v first old new next lt lt' lt'' is is' is'' pushed made
-      so_far =
+  committed-more ms points values i n o m p v first old new next lt lt' lt'' is is' is'' pushed log
+      same at_points at_values so_far =
+      let made = committed-is o m p.items v.items log same at_points at_values in
       let ps = lists_of points in
       let vs = opened_rows values in
       let rows : Vec (Vec E Global) Global → List (List E) = λ v. lists_of v.items in
@@ -343,26 +314,24 @@ module _ {F E : Type 0} (k : Fields F E) (blowup : ℕ) where
       (omega (arith, lt'', length-map values rows))
       (map-at (λ v. v.items) points i p lt' is') (map-at rows values i v lt'' is''))
 
-  -- is ready to be opened
-  pub ready-is : (two : ℕ) (o : OpenedMatrix F E) (m : RowMajorMatrix F) (ps : List E)
-      (vs : List (Vec E Global)) → o.log_height ≡ log_of (height_of m) → o.rows.now ≡ m →
-      o.points.now ≡ ps → o.values.now ≡ vs →
-      IsOpenable k two blowup m ps → AreValuesOf k blowup m ps (lists_of vs) → IsReady k two o
-  ready-is two o m ps vs log same points values open_at valued = λ powers enough. record {
+  -- can be opened
+  pub can-open : (h : ℕ) (m : RowMajorMatrix F) (ps lent : List E) → h ≡ log_of (height_of m) →
+      lent ≡ ps → IsOpenable k k.two_adicity blowup m ps → CanBeOpened k h m lent
+  can-open h m ps lent log points open_at = record {
     positive = omega (arith, log, open_at.blowup);
     in_group = omega (arith, log, open_at.in_group);
-    rows = ap height_of same ∙ open_at.power ∙ ap (λ h. 2 ^ h) (sym log);
+    rows = open_at.power ∙ ap (λ h. 2 ^ h) (sym log);
     off =
-        subst (AreOff k o.log_height) (sym points)
-        (subst (λ h. AreOff k h ps) (sym log) open_at.off);
-    valued = ap length values ∙ sym (length-map vs (λ v. v.items)) ∙ valued.count
-        ∙ sym (ap length points);
-    widths = subst (All (λ v. length v.items ≡ width_of o.rows.now)) (sym values)
-        (λ i d lt. sym (ap length (get_or-map (λ v. v.items) vs i d d.items lt))
-        ∙ valued.widths i d.items (omega (arith, lt, length-map vs (λ v. v.items)))
-        ∙ sym (ap width_of same));
-    enough = enough;
+        subst (AreOff k h) (sym points) (subst (λ h. AreOff k h ps) (sym log) open_at.off);
   }
+
+  -- has its values
+  pub as-wide : (m : RowMajorMatrix F) (ps : List E) (vs lent : List (Vec E Global)) → lent ≡ vs →
+      AreValuesOf k blowup m ps (lists_of vs) → All (λ v. length v.items ≡ width_of m) lent
+  as-wide m ps vs lent values valued =
+      subst (All (λ v. length v.items ≡ width_of m)) (sym values)
+      (λ i d lt. sym (ap length (get_or-map (λ v. v.items) vs i d d.items lt))
+      ∙ valued.widths i d.items (omega (arith, lt, length-map vs (λ v. v.items))))
 
 -- the matrices of one more request follow those of the requests before it
 pub requests-more : {A B C : Type 0} (f : A → B → List C) (xs : List A) (ys : List B) (i n : ℕ)
@@ -375,17 +344,3 @@ requests-more f xs ys i n x y old new next lt lt' is is' made so_far =
     ∙ sym (flat-push (λ b. b) (pairwise f (take i xs) (take i ys)) (f x y))
     ∙ ap (flat_map (λ b. b)) (sym (pairwise-more f xs ys i x y lt lt' is is')
     ∙ ap (λ a. pairwise f (take a xs) (take a ys)) (sym next))
-
-module _ {F E : Type 0} (k : Fields F E) (two : ℕ) (os : List (OpenedMatrix F E))
-    (ready : All (IsReady k two) os) where
-  -- matrices that are ready have some row each
-  pub ready-rows : All (λ o. 1 ≤ height_of o.rows.now) os
-  ready-rows = λ i d lt.
-      let o = slice_index_or os i d in
-      let can = ready i d lt (width_of o.rows.now + 1) (omega arith) in
-      omega (arith, can.rows, pow_pos o.log_height)
-
-  -- and none of their points is at infinity
-  pub ready-finite : All (λ o. All (IsFinite k.extension) o.points.now) os
-  ready-finite =
-      λ i d lt. (ready i d lt (width_of (slice_index_or os i d).rows.now + 1) (omega arith)).off.0

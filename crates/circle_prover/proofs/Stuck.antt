@@ -14,7 +14,7 @@ use Rattle.circle_transcript.specs.Runs.{NonePasses, drawn_of}
 use Rattle.circle_transcript.specs.declared.run.CircleDraws.{CircleDraws}
 use Rattle.circle_transcript.specs.Shape.{Shape}
 use Rattle.circle_transcript.specs.declared.transcript.Numbers.{Numbers}
-use Rattle.circle_transcript.proofs.Drawn.{AtQuery}
+use Rattle.circle_transcript.proofs.Drawn.{AtQuery, rounds_told}
 use Rattle.circle_codewords.specs.Words.{Committed, pairs_of}
 use Rattle.circle_prover.specs.Failure.{AreRoundsOf, Begins, FindsNone, IsStuckAfter, before_rounds}
 use Rattle.circle_prover.specs.Words.{IsCommitmentOf, round_word, top_of}
@@ -66,7 +66,8 @@ module _ {C S F E Com : Type 0} (r : RunMoves C S F E Com) (Commits : List (RowM
       (n : Numbers) (claims : List (Claim E)) (s : S) (t : Taken F E Com) (alpha bivariate : E)
       (begins : Begins r Commits k p ms n claims s t alpha bivariate) where
     -- before the queries
-    pub stuck-query : (betas : List E) (m : Numbers) (now : S) → AtQuery r n t s m now
+    pub stuck-query : (betas : List E) (first second : List F) (drawn : List (List F))
+        (m : Numbers) (now : S) → AtQuery r n t s first second drawn m now
         → AreRoundsOf r Commits n.commit_pow_bits (before_rounds r Commits k p ms n claims s t)
         (round_word k p.log_blowup ms alpha bivariate) t.rounds betas
         → length t.rounds ≡ top_of ms - 1 - p.log_blowup - p.log_final_poly_len
@@ -76,7 +77,7 @@ module _ {C S F E Com : Type 0} (r : RunMoves C S F E Com) (Commits : List (RowM
         (top_of ms - 1 - p.log_blowup - p.log_final_poly_len)) t.final_poly
         → NonePasses r.base (after_final_poly r.base now t.final_poly) m.query_pow_bits →
         FindsNone r Commits k p ms n claims s Query
-    stuck-query betas m now at played all final none = record {
+    stuck-query betas first second drawn m now at played all final none = record {
       taken = t;
       alpha = alpha;
       bivariate = bivariate;
@@ -87,7 +88,8 @@ module _ {C S F E Com : Type 0} (r : RunMoves C S F E Com) (Commits : List (RowM
       final_poly = final;
       none = subst (λ (v : Numbers). NonePasses r.base (closed r n t s) v.query_pow_bits) at.same
           (subst (λ a. NonePasses r.base a m.query_pow_bits)
-          (ap (λ a. after_final_poly r.base a t.final_poly) at.state) none);
+          (ap (λ a. after_final_poly r.base a t.final_poly)
+          (rounds_told r n t s first second drawn m now at).state) none);
     }
 
 -- a run that was drawn, told of its beginning and its end by other names

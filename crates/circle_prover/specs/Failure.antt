@@ -2,7 +2,6 @@
 use Rattle.std.specs.Prelude.{◌≡◌, ℕ, ◌+◌, ◌-◌, ◌<◌, ◌⊎◌, List, [], ◌∷◌, length, map, Some}
 use Rattle.std.specs.Prelude.{slice_get, Vec}
 use Rattle.std.specs.declared.alloc.Global.{Global}
-use Rattle.std.specs.Borrow.{Bor}
 use Rattle.circle_challenger.specs.Moves.{RunMoves, after_element, drawn_element, found_at}
 use Rattle.circle_commit.specs.declared.params.PowPhase.{PowPhase}
 use Rattle.circle_commit.specs.declared.params.PowPhase.TheVariants.{Batch, CommitPhase, Query}
@@ -23,14 +22,9 @@ use Rattle.circle_relation.specs.Statement.{BatchClaim}
 use Rattle.circle_transcript.specs.Numbers.{numbers_of}
 use Rattle.circle_transcript.specs.Runs.{NonePasses}
 use Rattle.circle_transcript.specs.declared.transcript.Numbers.{Numbers}
-use Rattle.circle_point.specs.declared.point.Point.{Point}
-use Rattle.circle_transcript.specs.Claims.{claims_of}
-use Rattle.circle_transcript.specs.ShapeOf.{shape_of}
-use Rattle.circle_transcript.specs.Transcript.{at_commitment, current, numbers}
-use Rattle.circle_transcript.specs.declared.shape.CirclePcsShape.{CirclePcsShape}
+use Rattle.circle_transcript.specs.Transcript.{current, numbers}
 use Rattle.circle_transcript.specs.declared.transcript.CircleTranscript.{CircleTranscript}
-use Rattle.circle_codewords.specs.Words.{Committed, committed_of, pairs_of}
-use Rattle.circle_codewords.specs.declared.reduced.OpenedMatrix.{OpenedMatrix}
+use Rattle.circle_codewords.specs.Words.{Committed, pairs_of}
 
 -- the last codeword of these matrices is of too high degree
 abbrev pub IsTooHigh : {F E : Type 0} → Fields F E → ℕ → ℕ → List (Committed F E) → ProverError
@@ -124,11 +118,12 @@ module _ {C S F E Com : Type 0} (r : RunMoves C S F E Com)
 
   -- memory is refused, or no witness passes: in the round of a codeword; in one of several rounds,
   -- the first of a codeword of 2^h entries, whatever is folded from the heights
-  module _ {Side : Type 0} (t : CircleTranscript C F E Side) where
+  module _ {Side : Type 0} {g d : _} (t : CircleTranscript C F E Com Side S g d) where
     abbrev pub IsRoundFailure : List E → ProverError → Type 0
     IsRoundFailure word e = (e ≡ Memory) ⊎ ((e ≡ NoGrindingWitness CommitPhase)
         × (commitment : Com) × IsCommitmentOf Commits (pairs_of word ∷ []) commitment
-        × NonePasses r.base (at_commitment r t commitment) (numbers t).commit_pow_bits)
+        × NonePasses r.base (r.after_commitment (r.base.state (current t)) commitment)
+        (numbers t).commit_pow_bits)
 
     abbrev pub IsRoundsFailure : Fields F E → List ℕ → List (Vec E Global) → ℕ → List E → ℕ
         → ProverError → Type 0
@@ -137,28 +132,6 @@ module _ {C S F E Com : Type 0} (r : RunMoves C S F E Com)
         × ((f : ℕ → List E) → map (λ w. w.items) folded ≡ map f heights →
         IsStuckAfter (numbers t).commit_pow_bits (r.base.state (current t))
         (word_at k heights f h first) count))
-
-  -- why a run over claims is not played to its end: from a transcript that has begun, or from a
-  -- challenger that is seeded with its shape
-  module _ {M : Type 0} {g : _} (k : Fields F E) (p : FriParameters M)
-      (matrices : List (OpenedMatrix F E)) (claims : List (Point E g × Bor (List E))) where
-    -- the matrices as codewords see them
-    abbrev pub seen : List (Committed F E)
-    seen = map (committed_of k p.log_blowup) matrices
-
-    abbrev pub IsRunFailure :
-        {Side : Type 0} → CircleTranscript C F E Side → ProverError → Type 0
-    IsRunFailure t e =
-        (e ≡ Memory)
-        ⊎ IsTooHigh k p.log_blowup p.log_final_poly_len seen e
-        ⊎ IsStuck k p seen (numbers t) (claims_of claims) (r.base.state (current t)) e
-
-    abbrev pub IsShapeFailure : CirclePcsShape → C → ProverError → Type 0
-    IsShapeFailure shape challenger e =
-        (e ≡ Memory)
-        ⊎ IsTooHigh k p.log_blowup p.log_final_poly_len seen e
-        ⊎ IsStuck k p seen (numbers_of (shape_of shape)) (claims_of claims)
-        (seeded r (shape_of shape) (r.base.state challenger)) e
 
   -- so it does in the run over claims on matrices under these parameters, before it is seeded
   abbrev pub IsStuckFrom : {M InputCom : Type 0} → Fields F E → FriParameters M

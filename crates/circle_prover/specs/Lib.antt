@@ -3,3 +3,4 @@ pub mod Opening
 pub mod Failure
 pub mod Schemes
 pub mod Requesting
+pub mod OfFoldable

@@ -1,7 +1,7 @@
 -- What an opening commits to once its batching challenge is drawn: Circle STARKs (ePrint 2024/278),
 -- sections 4 and 6.
 use Rattle.std.specs.Prelude.{◌≡◌, ℕ, ◌+◌, ◌-◌, ◌≤◌, ◌==◌, List, [], ◌∷◌, length, map, zip, All}
-use Rattle.std.specs.Prelude.{Some, slice_get, slice_index_or, true, Vec}
+use Rattle.std.specs.Prelude.{Ok, Some, slice_get, slice_index_or, true, Vec}
 use Rattle.std.specs.List.{filter, list_any, range_with_len}
 use Rattle.std.specs.declared.alloc.Global.{Global}
 use Rattle.std.proofs.Common.{zero, suc}
@@ -13,14 +13,12 @@ use Rattle.circle_commit.specs.declared.matrix.RowMajorMatrix.{RowMajorMatrix}
 use Rattle.circle_folding.specs.Fold.{y_folds}
 use Rattle.circle_relation.specs.Accepts.{Fields}
 use Rattle.circle_commit.specs.declared.params.FriParameters.{FriParameters}
-use Rattle.circle_transcript.specs.Draw.{Claim, Taken, taken, after_rounds, fold_challenges}
-use Rattle.circle_transcript.specs.Draw.{rounds_pass, AreFound}
+use Rattle.circle_transcript.specs.Draw.{Claim, Taken, taken, play_rounds, AreFound}
 use Rattle.circle_domain.specs.Spans.{HasXValues, XSpan}
-use Rattle.circle_transcript.specs.Transcript.{current, numbers}
+use Rattle.circle_transcript.specs.Transcript.{numbers, run_of, state_of}
 use Rattle.circle_transcript.specs.declared.transcript.CircleTranscript.{CircleTranscript}
 use Rattle.circle_codewords.specs.Words.{Committed, HaveHeights, corrected_word, lambda}
-use Rattle.circle_codewords.specs.Words.{layers_of, next_word, pairs_of, y_folded}
-use Rattle.circle_codewords.specs.declared.reduced.OpenedMatrix.{OpenedMatrix}
+use Rattle.circle_codewords.specs.Words.{next_word, pairs_of, y_folded}
 use Rattle.circle_prover.specs.declared.rounds.Rounds.{Rounds}
 use Rattle.circle_prover.specs.declared.run.CommittedWords.{CommittedWords}
 
@@ -104,9 +102,7 @@ pub record EndsHigh {F E : Type 0} (k : Fields F E) (blowup final : ℕ)
 pub record HavePlayed {C S F E Com : Type 0} (r : RunMoves C S F E Com) (bits : ℕ) (begun now : S)
     (rounds : List (Com × F)) (betas : List (List F)) : Type 0 where
   pub found : AreFound r bits begun rounds
-  pub passes : rounds_pass r bits begun rounds ≡ true
-  pub challenges : betas ≡ fold_challenges r bits begun rounds
-  pub state : now ≡ after_rounds r bits begun rounds
+  pub played : play_rounds r bits begun rounds ≡ Ok (betas, now)
 
 -- what was made and committed to are the codewords of an opening under the challenges that were
 -- drawn
@@ -145,18 +141,10 @@ AreTall p matrices =
     (1 ≤ length matrices)
     × All (λ m. p.log_blowup + p.log_final_poly_len + 2 ≤ m.log_height) matrices
 
--- the codewords of the first layer that matrices with their points and values there have, committed
--- to; what layers, kept by a committer, fold into by y
-module _ {F E : Type 0} (k : Fields F E) where
-  abbrev pub AreLayers : {D Com : Type 0} → (D → List (RowMajorMatrix E))
-      → (List (RowMajorMatrix E) → Com → Type 0) → List (OpenedMatrix F E) → ℕ → E → List ℕ → D
-      → Com → Type 0
-  AreLayers kept_of Commits matrices blowup alpha heights kept commitment =
-      AreCommitted Commits (layers_of k matrices blowup alpha heights) (kept_of kept) commitment
-
-  abbrev pub folded_layers : E → List ℕ → List (RowMajorMatrix E) → List (List E)
-  folded_layers bivariate heights layers =
-      pairwise (y_folded k bivariate) heights (map rows layers)
+-- what layers, kept by a committer, fold into by y
+abbrev pub folded_layers : {F E : Type 0} → Fields F E → E → List ℕ → List (RowMajorMatrix E)
+    → List (List E)
+folded_layers k bivariate heights layers = pairwise (y_folded k bivariate) heights (map rows layers)
 
 -- whatever these codewords are folded from, by the heights
 module _ {F E : Type 0} (k : Fields F E) (heights : List ℕ) (folded : List (Vec E Global)) where
@@ -181,17 +169,13 @@ module _ {F E : Type 0} (k : Fields F E) (heights : List ℕ) (folded : List (Ve
       rounds.commitments.items
 
 -- these rounds were played from the one transcript, which leaves the other
-abbrev pub ArePlayed : {C S F E Com D Side : Type 0} → RunMoves C S F E Com
-    → CircleTranscript C F E Side → CircleTranscript C F E Side → Rounds F E Com D → Type 0
-ArePlayed r old new rounds =
-    HavePlayed r (numbers old).commit_pow_bits (r.base.state (current old))
-    (r.base.state (current new)) (zip rounds.commitments.items rounds.witnesses.items)
-    (map r.base.coefficients rounds.betas.items)
-
--- this many rounds leave the coefficients at which folding stops
-abbrev pub rounds_for : {F E M : Type 0} → FriParameters M → List (OpenedMatrix F E) → ℕ
-rounds_for p matrices =
-    greatest (map (λ m. m.log_height) matrices) - 1 - p.log_blowup - p.log_final_poly_len
+abbrev pub ArePlayed : {C F E Com D Side S : Type 0} {g d : _}
+    → CircleTranscript C F E Com Side S g d → CircleTranscript C F E Com Side S g d
+    → Rounds F E Com D → Type 0
+ArePlayed old new rounds =
+    HavePlayed (run_of old) (numbers old).commit_pow_bits (state_of old) (state_of new)
+    (zip rounds.commitments.items rounds.witnesses.items)
+    (map (run_of old).base.coefficients rounds.betas.items)
 
 -- what was made are the codewords of these matrices, under parameters and the scheme of the
 -- codewords

@@ -1,11 +1,10 @@
 //! Requested matrices with the values that are returned, as an opening and its transcript absorb
 //! them.
-ghost use Rattle.std.specs.Prelude.{ℕ, ◌≡◌, ◌<◌, ◌≤◌, ◌++◌, All, IfOk, OnOk};
+ghost use Rattle.std.specs.Prelude.{ℕ, ◌≡◌, ◌++◌, All, IfOk, OnOk};
 ghost use Rattle.std.specs.Prelude.{length, map, flat_map};
 ghost use Rattle.std.specs.List.{AllZip};
 ghost use Rattle.circle_commit.specs.Mmcs.{opened_rows};
 ghost use Rattle.circle_commit.specs.Pcs.{openings};
-ghost use Rattle.circle_commit.specs.RowMajorMatrix.{height_of, width_of};
 ghost use Rattle.circle_commit.specs.DotProduct.{pairwise};
 ghost use Rattle.circle_domain.specs.Selectors.{IsFinite};
 ghost use Rattle.circle_transcript.specs.Claims.{claims_of};
@@ -13,7 +12,6 @@ ghost use Rattle.circle_transcript.specs.ShapeOf.{batches_of, matrices_of};
 ghost use Rattle.circle_relation.specs.Accepts.{Fields};
 ghost use Rattle.circle_codewords.specs.Words.{claim_of, committed_of};
 ghost use Rattle.circle_codewords.specs.Requests.{AreAnswers, IsFit, IsOpenable};
-ghost use Rattle.circle_codewords.specs.Requests.{IsReady};
 ghost use Rattle.circle_codewords.specs.Requests.{AddsBatch, AreAllRequested, AreBatchValues};
 ghost use Rattle.circle_codewords.specs.Requests.{lists_of};
 ghost use Rattle.circle_relation.specs.Taken.{point_taken};
@@ -42,12 +40,8 @@ fn push_matrices<'a, F: ComplexExtendable, EF: ExtensionField<F>>(
     requires count { length values.now ≡ length points.now }
     requires values { AreBatchValues ⟦<EF as OverCircle<F>>⟧.fields log_blowup matrices.now
         (lists_of points.now) (opened_rows values.now) }
-    requires openable { All (IsReady ⟦<EF as OverCircle<F>>⟧.fields F.CIRCLE_TWO_ADICITY)
-        list.old.items }
-    ensures matrices { OnOk result (AddsBatch ⟦<EF as OverCircle<F>>⟧.fields log_blowup matrices.now
+    ensures { OnOk result (AddsBatch ⟦<EF as OverCircle<F>>⟧.fields log_blowup matrices.now
         points.now values.now list.old.items list.new.items) }
-    ensures openable { OnOk result (All (IsReady ⟦<EF as OverCircle<F>>⟧.fields
-        F.CIRCLE_TWO_ADICITY) list.new.items) }
 {
     for (matrix, (points, values)) in matrices.iter().zip(points.iter().zip(values)) {
         list.push(OpenedMatrix {
@@ -75,10 +69,8 @@ pub(crate) fn opened_matrices<'a, F: ComplexExtendable, EF: ExtensionField<F>, M
         F.CIRCLE_TWO_ADICITY) requests.now }
     requires values { AllZip (AreAnswers M.matrices ⟦<EF as OverCircle<F>>⟧.fields log_blowup)
         requests.now (openings values.now) }
-    ensures matrices { IfOk result (λ v. AreAllRequested M.matrices ⟦<EF as OverCircle<F>>⟧.fields
+    ensures { IfOk result (λ v. AreAllRequested M.matrices ⟦<EF as OverCircle<F>>⟧.fields
         log_blowup requests.now (openings values.now) v.items) }
-    ensures openable { IfOk result (λ v. All (IsReady ⟦<EF as OverCircle<F>>⟧.fields
-        F.CIRCLE_TWO_ADICITY) v.items) }
 {
     let mut list = Vec::new(alloc);
     for (request, values) in requests.iter().zip(values) {
@@ -86,20 +78,6 @@ pub(crate) fn opened_matrices<'a, F: ComplexExtendable, EF: ExtensionField<F>, M
         push_matrices(&mut list, log_blowup, matrices, &request.points, values)?;
     }
     Ok(list)
-}
-
-/// A number above that of every matrix's columns.
-///
-/// Requires matrices of some row each.
-pub(crate) fn above_widths<F: Copy, EF>(matrices: &[OpenedMatrix<F, EF>]) -> usize
-    requires { All (λ m. 1 ≤ height_of m.rows.now) matrices.now }
-    ensures { All (λ m. width_of m.rows.now < result) matrices.now }
-{
-    let mut greatest = 0;
-    for matrix in matrices {
-        greatest = greatest.max(matrix.rows.width());
-    }
-    greatest + 1
 }
 
 // Adds the claims on a matrix.
@@ -120,12 +98,11 @@ fn append_claims<'a, EF: Field>(
 
 /// The claims on all matrices as the transcript takes them in, one after another.
 ///
-/// Requires points that are not at infinity. Fails where memory is refused.
-pub(crate) fn opened_claims<'a, F: Copy, EF: Field>(
+/// Fails where memory is refused.
+pub(crate) fn opened_claims<'a, F: ComplexExtendable, EF: ExtensionField<F>>(
     alloc: Global,
     matrices: &[OpenedMatrix<'a, F, EF>],
 ) -> Result<Vec<OpeningClaim<'a, EF>>, AllocError>
-    requires finite { All (λ m. All (IsFinite EF.ops) m.points.now) matrices.now }
     ensures { IfOk result (λ v. (k : Fields F EF) (blowup : ℕ) → claims_of v.items ≡ flat_map
         (λ m. map (point_taken EF.ops) m.claims) (map (committed_of k blowup) matrices.now)) }
 {

@@ -3,22 +3,28 @@ ghost use Rattle.std.specs.Prelude.{◌≡◌, ◌≤◌, ◌<◌, ◌-◌, ◌+
 ghost use Rattle.std.specs.Prelude.{IfOk, IfErr};
 ghost use Rattle.std.specs.Prelude.{◌⊎◌};
 ghost use Rattle.circle_domain.specs.Spans.{HasXValues, XSpan};
-ghost use Rattle.circle_codewords.specs.Words.{CanBeOpened, HaveHeights, IsHeight};
-ghost use Rattle.circle_codewords.specs.Words.{opened_lambda};
-ghost use Rattle.circle_prover.specs.Words.{AreLayers, folded_layers};
+ghost use Rattle.circle_codewords.specs.Words.{HaveHeights, y_folds_at};
+ghost use Rattle.circle_commit.specs.DotProduct.{pairwise};
+ghost use Rattle.circle_commit.specs.RowMajorMatrix.{rows};
+ghost use Rattle.circle_prover.specs.OfFoldable.{lambdas_of, layers_of, seen};
+ghost use Rattle.circle_prover.specs.Words.{AreCommitted, heights_of};
 ghost use Rattle.circle_relation.specs.declared.error.ProverError.TheVariants.{LastWordNotConstant};
 ghost use Rattle.circle_relation.specs.declared.error.ProverError.TheVariants.{Memory};
 
-use circle_codewords::{OpenedMatrix, first_layer, fold_corrected};
+use crate::foldable::FoldableMatrices;
+use crate::heights::committed_heights;
+use circle_codewords::{BatchedMatrices, fold_corrected};
 use circle_commit::Mmcs;
 use circle_field::{ComplexExtendable, ExtensionField, Field};
 use circle_folding::x_interpolate;
-use circle_relation::{OverCircle, ProverError};
+use circle_relation::ProverError;
 use std::alloc::{AllocError, Global};
 
 /// The first layer of an opening.
 #[derive(Drop)]
 pub(crate) struct FirstLayer<EF, Com, Data> {
+    /// The binary logarithms of the heights, ascending.
+    pub heights: Vec<usize>,
     /// For each height, from the least up, the multiple of the vanishing polynomial in its
     /// codeword.
     pub lambdas: Vec<EF>,
@@ -28,44 +34,36 @@ pub(crate) struct FirstLayer<EF, Com, Data> {
     pub kept: Data,
 }
 
-/// Makes the codewords of all heights, and commits to them by pairs.
-///
-/// The first layer has a commitment of its own, apart from the rounds: its pairs are at opposite
-/// points and fold by y, where those of rounds fold by x; and it has the codewords of all heights,
-/// so that those that join a later round are fixed too before the one challenge that folds them
-/// all.
-///
-/// Requires `log_blowup >= 1`, some height, heights above the blowup and below
-/// `CIRCLE_TWO_ADICITY`, and matrices that can be opened by these powers. Fails where memory is
-/// refused.
-pub(crate) fn commit_first_layer<F: ComplexExtendable, EF: ExtensionField<F>, M: Mmcs<EF>>(
-    alloc: Global,
-    mmcs: &M,
-    log_blowup: usize,
-    alpha: EF,
-    num_powers: usize,
-    heights: &[usize],
-    matrices: &[OpenedMatrix<F, EF>],
-) -> Result<FirstLayer<EF, M::Commitment, M::ProverData>, AllocError>
-    requires blowup { 1 ≤ log_blowup }
-    requires some { 1 ≤ length heights.now }
-    requires heights { All (IsHeight F.CIRCLE_TWO_ADICITY log_blowup) heights.now }
-    requires openable { All (CanBeOpened ⟦<EF as OverCircle<F>>⟧.fields F.CIRCLE_TWO_ADICITY
-        num_powers) matrices.now }
-    ensures lambdas { let k = ⟦<EF as OverCircle<F>>⟧.fields in IfOk result (λ r. r.lambdas.items ≡
-        map (opened_lambda k matrices.now log_blowup alpha) heights.now) }
-    ensures committed { IfOk result (λ r. AreLayers ⟦<EF as OverCircle<F>>⟧.fields M.matrices
-        (M.commits mmcs.now) matrices.now log_blowup alpha heights.now r.kept r.commitment) }
-    ensures shapes { IfOk result (λ r. HaveHeights heights.now (M.matrices r.kept)) }
-{
-    let powers = EF::powers(alloc, alpha, num_powers)?;
-    let (lambdas, layers) = first_layer(alloc, heights, log_blowup, &powers, matrices)?;
-    let (commitment, kept) = mmcs.commit(alloc, layers)?;
-    Ok(FirstLayer {
-        lambdas,
-        commitment,
-        kept,
-    })
+impl<F: ComplexExtendable, EF: ExtensionField<F>, M: Mmcs<EF>> FoldableMatrices<'_, F, EF, M> {
+    /// Makes the codewords of all heights, and commits to them by pairs.
+    ///
+    /// The first layer has a commitment of its own, apart from the rounds: its pairs are at
+    /// opposite points and fold by y, where those of rounds fold by x; and it has the codewords of
+    /// all heights, so that those that join a later round are fixed too before the one challenge
+    /// that folds them all. Fails where memory is refused.
+    pub(crate) fn commit_first_layer(
+        &self,
+        alloc: Global,
+        alpha: EF,
+    ) -> Result<FirstLayer<EF, M::Commitment, M::ProverData>, AllocError>
+        ensures heights { IfOk result (λ r. r.heights.items ≡ heights_of (seen self.now)) }
+        ensures lambdas { IfOk result (λ r. r.lambdas.items ≡ lambdas_of self.now alpha) }
+        ensures committed { IfOk result (λ r. AreCommitted (M.commits self.now.params.now.mmcs)
+            (layers_of self.now alpha) (M.matrices r.kept) r.commitment) }
+        ensures shapes { IfOk result (λ r. HaveHeights r.heights.items (M.matrices r.kept)) }
+    {
+        let heights = committed_heights(alloc, self.matrices)?;
+        let log_blowup = self.params.log_blowup;
+        let batched = BatchedMatrices::new(alloc, self.matrices, log_blowup, alpha)?;
+        let (lambdas, layers) = batched.first_layer(alloc, &heights)?;
+        let (commitment, kept) = self.params.mmcs.commit(alloc, layers)?;
+        Ok(FirstLayer {
+            heights,
+            lambdas,
+            commitment,
+            kept,
+        })
+    }
 }
 
 /// What the codeword of the greatest height folds into by y, and what those of the others do.
@@ -82,8 +80,9 @@ pub(crate) fn fold_first_layer<F: ComplexExtendable, EF: ExtensionField<F>, M: M
     requires some { 1 ≤ length heights.now }
     requires heights { All (λ h. (1 ≤ h) × (h < F.CIRCLE_TWO_ADICITY)) heights.now }
     requires shapes { HaveHeights heights.now (M.matrices kept.now) }
-    ensures words { IfOk result (λ r. map (λ w. w.items) r.1.items ++ r.0.items ∷ [] ≡
-        folded_layers ⟦<EF as OverCircle<F>>⟧.fields bivariate heights.now (M.matrices kept.now)) }
+    ensures words { IfOk result (λ r. map (λ w. w.items) r.1.items ++ r.0.items ∷ [] ≡ pairwise
+        (y_folds_at F.ops F.generators EF.ops EF.embed bivariate) heights.now
+        (map rows (M.matrices kept.now))) }
     ensures lengths { IfOk result (λ r. map (λ w. length w.items) r.1.items
         ++ length r.0.items ∷ [] ≡ map (λ h. 2 ^ (h - 1)) heights.now) }
 {

@@ -12,12 +12,14 @@ ghost use Rattle.circle_codewords.specs.Words.{committed_of};
 
 use circle_codewords::OpenedMatrix;
 use circle_commit::{FriParameters, Matrix, RowMajorMatrix, log2_strict};
-use circle_field::ComplexExtendable;
+use circle_field::{ComplexExtendable, ExtensionField};
 use circle_relation::ProverError;
 use std::alloc::{AllocError, Global};
 
 /// The binary logarithm of the greatest height, 0 where there is no matrix.
-pub(crate) fn greatest_height<F: Copy, EF>(matrices: &[OpenedMatrix<F, EF>]) -> usize
+pub(crate) fn greatest_height<F: ComplexExtendable, EF: ExtensionField<F>>(
+    matrices: &[OpenedMatrix<F, EF>],
+) -> usize
     ensures { result ≡ greatest (map (λ m. m.log_height) matrices.now) }
 {
     let mut greatest = 0;
@@ -28,14 +30,17 @@ pub(crate) fn greatest_height<F: Copy, EF>(matrices: &[OpenedMatrix<F, EF>]) -> 
 }
 
 // Whether there is a matrix of this height.
-fn has_height<F: Copy, EF>(matrices: &[OpenedMatrix<F, EF>], log_height: usize) -> bool
+fn has_height<F: ComplexExtendable, EF: ExtensionField<F>>(
+    matrices: &[OpenedMatrix<F, EF>],
+    log_height: usize,
+) -> bool
     ensures { result ≡ list_any (λ m. m.log_height == log_height) matrices.now }
 {
     matrices.iter().any(|m| m.log_height == log_height)
 }
 
 /// The binary logarithms of all heights, ascending, each once. Fails where memory is refused.
-pub(crate) fn committed_heights<F: Copy, EF>(
+pub(crate) fn committed_heights<F: ComplexExtendable, EF: ExtensionField<F>>(
     alloc: Global,
     matrices: &[OpenedMatrix<F, EF>],
 ) -> Result<Vec<usize>, AllocError>

@@ -30,19 +30,22 @@
 //! - In `src/`, `requests` tests what is requested. `prove` has the whole opening: `values` for the
 //!   values, `claims` and `heights` for what is requested, `run` for the run of the transcript,
 //!   with `first_layer` and `rounds` in it, and `openings` for the rows and siblings at the
-//!   queries. `schemes` is what contracts see of the fields, the challenger and the schemes.
+//!   queries. `foldable` has the matrices of the run as a value, which carries that each leaves
+//!   something to fold. `schemes` is what contracts see of the fields, the challenger and the
+//!   schemes.
 //! - In `specs/`, `Requesting`: the tests of requests, in order. `Opening` says what is returned,
 //!   by `Words`, the codewords under the challenges and what is committed to; `Failure` why a run
-//!   fails, `Schemes` the whole by the schemes.
+//!   fails, `Schemes` the whole by the schemes. `OfFoldable`: the same over the value of a run.
 //! - In `proofs/`, `CommittedHeights`, `OnDomain`, `RequestLists` and `Unrefused` are of the tests,
-//!   `Growing`, `Lengths` and `FoldedLengths` of codewords, `Tops` and `Seen` of heights, `Counts`
-//!   and `Stuck` of the transcript, `Asked`, `Answered` and `Requested` of requested matrices as
-//!   claims, `Held` and `OpenedPairs` of what a proof holds and opens. The folders have what is
-//!   proved of the functions of the file of that name.
+//!   `Growing`, `Lengths` and `FoldedLengths` of codewords, `Tops`, `Seen` and `TallMatrices` of
+//!   heights, `Counts` and `Stuck` of the transcript, `Asked`, `Answered` and `Requested` of
+//!   requested matrices as claims, `Held` and `OpenedPairs` of what a proof holds and opens. The
+//!   folders have what is proved of the functions of the file of that name.
 #![tactic(auto)]
 
 mod claims;
 mod first_layer;
+mod foldable;
 pub mod heights;
 mod openings;
 pub mod prove;

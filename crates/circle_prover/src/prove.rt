@@ -12,10 +12,11 @@ ghost use Rattle.circle_prover.specs.Schemes.{IsOpeningBy, IsPlayed};
 ghost use Rattle.circle_relation.specs.Taken.{claims_taken, taken_by};
 ghost use Rattle.circle_prover.specs.Words.{AreSomeWords, taken_in};
 
-use crate::claims::{above_widths, opened_claims, opened_matrices, opened_widths};
+use crate::claims::{opened_claims, opened_matrices, opened_widths};
+use crate::foldable::FoldableMatrices;
 use crate::heights::greatest_height;
 use crate::openings::{open_rounds, open_rows, open_siblings};
-use crate::run::{CommittedWords, open_words};
+use crate::run::CommittedWords;
 use crate::schemes::OpeningOver;
 use crate::values::requested_values;
 use circle_challenger::{CanObserve, CanSample, GrindingChallenger};
@@ -67,10 +68,11 @@ where
     let widths = opened_widths(alloc, values)?;
     let extra_bits = FriFoldingStrategy::<Val, EF>::extra_query_index_bits(&CircleFriFolding);
     let shape = CirclePcsShape::new(params, widths, greatest_height(&matrices), extra_bits);
-    let num_powers = above_widths(&matrices);
-    open_words(
-        alloc, challenger, shape, params, &claims, num_powers, &matrices,
-    )
+    let foldable = FoldableMatrices {
+        params,
+        matrices: &matrices,
+    };
+    foldable.open(alloc, challenger, shape, &claims)
 }
 
 // The rows of each batch at the queries.

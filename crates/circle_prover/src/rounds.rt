@@ -1,19 +1,18 @@
 //! The rounds of an opening: each codeword is committed to, a challenge is drawn, and the codeword
 //! is folded by it.
 ghost use Rattle.std.specs.Prelude.{◌≡◌, ℕ, ◌≤◌, ◌-◌, ◌+◌, ◌^◌, ◌++◌, [], ◌∷◌, length, map, All};
-ghost use Rattle.std.specs.Prelude.{IsTrue, IfOk, IfErr, OnOk, Some};
+ghost use Rattle.std.specs.Prelude.{IfOk, IfErr, OnOk, Ok, Some};
 ghost use Rattle.circle_challenger.specs.Due.{AreNext, HasPlayed};
 ghost use Rattle.circle_commit.specs.Matrix.{IsPowerOfTwo};
 ghost use Rattle.circle_transcript.specs.Shape.{round_steps, rounds_steps};
-ghost use Rattle.circle_transcript.specs.Transcript.{current, due, numbers, IsSame};
-ghost use Rattle.circle_transcript.specs.Transcript.{commit_passes, commit_found, commit_challenge};
-ghost use Rattle.circle_transcript.specs.Transcript.{after_commit};
+ghost use Rattle.circle_transcript.specs.Transcript.{due, numbers, run_of, state_of, IsSame};
+ghost use Rattle.circle_transcript.specs.Transcript.{commit_found, commit_from};
 ghost use Rattle.circle_codewords.specs.Words.{pairs_of};
 ghost use Rattle.circle_prover.specs.Failure.{IsRoundFailure, IsRoundsFailure};
 ghost use Rattle.circle_prover.specs.Words.{AreCommitted, ArePlayed, AreRoundsFrom};
 ghost use Rattle.circle_prover.specs.Words.{EndsIn, Follows};
 
-use circle_challenger::{CanObserve, CanSample, GrindingChallenger, RunChallenger};
+use circle_challenger::{CanObserve, CanSample, GrindingChallenger};
 use circle_codewords::fold_round;
 use circle_commit::{Mmcs, RowMajorMatrix};
 use circle_field::{ComplexExtendable, ExtensionField, Field};
@@ -73,7 +72,7 @@ fn commit_word<EF: Field, M: Mmcs<EF>>(
 /// refused.
 fn play_round<'a, F: ComplexExtendable, EF: ExtensionField<F>, M: Mmcs<EF>, C>(
     alloc: Global,
-    transcript: &mut CircleProverTranscript<'a, C, F, EF>,
+    transcript: &mut CircleProverTranscript<'a, C, F, EF, M::Commitment>,
     mmcs: &M,
     log_height: usize,
     word: Vec<EF>,
@@ -94,20 +93,15 @@ where
         (numbers transcript.old).commit_pow_bits) (due transcript.old) (due transcript.new)) }
     ensures easy { IfOk result (λ r.
         (numbers transcript.old).commit_pow_bits ≡ 0 → r.witness ≡ F.ops.zero) }
-    ensures found { let m = ⟦<C as RunChallenger<F, EF, M::Commitment>>⟧.run in IfOk result
-        (λ r. commit_found m transcript.old r.commitment ≡ Some r.witness) }
-    ensures passes { let m = ⟦<C as RunChallenger<F, EF, M::Commitment>>⟧.run in IfOk result
-        (λ r. IsTrue (commit_passes m transcript.old r.commitment r.witness)) }
-    ensures challenge { let m = ⟦<C as RunChallenger<F, EF, M::Commitment>>⟧.run in IfOk result
-        (λ r. EF.coefficients r.beta ≡ commit_challenge m transcript.old r.commitment r.witness) }
-    ensures state { let m = ⟦<C as RunChallenger<F, EF, M::Commitment>>⟧.run in IfOk result (λ r.
-        C.state (current transcript.new) ≡ after_commit m transcript.old r.commitment r.witness) }
+    ensures found { IfOk result (λ r. commit_found transcript.old r.commitment ≡ Some r.witness) }
+    ensures played { IfOk result (λ r. commit_from transcript.old r.commitment r.witness
+        ≡ Ok (EF.coefficients r.beta, state_of transcript.new)) }
     ensures committed { IfOk result (λ r. AreCommitted (M.commits mmcs.now)
         (pairs_of word.items ∷ []) (M.matrices r.kept) r.commitment) }
     ensures length { IfOk result (λ r. length r.next.items ≡ 2 ^ (log_height - 1)) }
     ensures folds { IfOk result (λ r. Follows ⟦<EF as OverCircle<F>>⟧.fields heights.now folded.now
         log_height r.beta word.items r.next.items) }
-    ensures failure { let m = ⟦<C as RunChallenger<F, EF, M::Commitment>>⟧.run in IfErr result
+    ensures failure { let m = run_of transcript.old in IfErr result
         (IsRoundFailure m (M.commits mmcs.now) transcript.old word.items) }
 {
     let (commitment, kept) = commit_word(alloc, mmcs, word)?;
@@ -170,7 +164,7 @@ fn add_round<F: Field, EF: Field, Com: Drop, Data: Drop>(
 /// `Memory` where memory is refused.
 pub(crate) fn play_rounds<'a, F: ComplexExtendable, EF: ExtensionField<F>, M: Mmcs<EF>, C>(
     alloc: Global,
-    transcript: &mut CircleProverTranscript<'a, C, F, EF>,
+    transcript: &mut CircleProverTranscript<'a, C, F, EF, M::Commitment>,
     mmcs: &M,
     num_rounds: usize,
     log_height: usize,
@@ -194,14 +188,13 @@ where
     ensures witnesses { IfOk result (λ r. length r.0.witnesses.items ≡ num_rounds) }
     ensures easy { IfOk result (λ r. (numbers transcript.old).commit_pow_bits ≡ 0 →
         All (λ w. w ≡ F.ops.zero) r.0.witnesses.items) }
-    ensures played { let m = ⟦<C as RunChallenger<F, EF, M::Commitment>>⟧.run in IfOk result (λ r.
-        ArePlayed m transcript.old transcript.new r.0) }
+    ensures played { IfOk result (λ r. ArePlayed transcript.old transcript.new r.0) }
     ensures length { IfOk result (λ r. length r.1.items ≡ 2 ^ (log_height - num_rounds)) }
     ensures committed { IfOk result (λ r. AreRoundsFrom ⟦<EF as OverCircle<F>>⟧.fields heights.now
         folded.now (M.commits mmcs.now) M.matrices log_height first.items r.0) }
     ensures word { IfOk result (λ r. EndsIn ⟦<EF as OverCircle<F>>⟧.fields heights.now folded.now
         log_height first.items r.0.betas.items num_rounds r.1.items) }
-    ensures failure { let m = ⟦<C as RunChallenger<F, EF, M::Commitment>>⟧.run in IfErr result
+    ensures failure { let m = run_of transcript.old in IfErr result
         (IsRoundsFailure m (M.commits mmcs.now) transcript.old ⟦<EF as OverCircle<F>>⟧.fields
         heights.now folded.now log_height first.items num_rounds) }
 {

@@ -1,13 +1,12 @@
 //! The values of committed matrices at the points that they are to be opened at.
-ghost use Rattle.std.specs.Prelude.{◌≡◌, All, IfOk, OnOk, length, zip};
+ghost use Rattle.std.specs.Prelude.{◌≡◌, All, IfOk, length, zip};
 ghost use Rattle.std.specs.List.{AllZip};
 ghost use Rattle.circle_commit.specs.Mmcs.{opened_rows};
 ghost use Rattle.circle_commit.specs.Pcs.{openings};
-ghost use Rattle.circle_codewords.specs.Values.{AreWeightsOf};
 ghost use Rattle.circle_codewords.specs.Requests.{IsOpenable, IsFit, AreAnswers};
 ghost use Rattle.circle_codewords.specs.Requests.{AreBatchValues, lists_of};
 
-use circle_codewords::{PointWeights, opened_values};
+use circle_codewords::{MatrixAtPoints, PointWeights};
 use circle_commit::{
     Matrix, Mmcs, OpenedValues, OpenedValuesForRound, OpeningRequest, RowMajorMatrix, log2_strict,
 };
@@ -19,24 +18,25 @@ use std::alloc::{AllocError, Global};
 // those of other batches are found.
 fn batch_values<F: ComplexExtendable, EF: ExtensionField<F>>(
     alloc: Global,
-    all: &mut Vec<PointWeights<EF>>,
+    all: &mut Vec<PointWeights<F, EF>>,
     log_blowup: usize,
     matrices: &[RowMajorMatrix<F>],
     points: &[Vec<EF>],
 ) -> Result<OpenedValuesForRound<EF>, AllocError>
     requires fit { AllZip (IsOpenable ⟦<EF as OverCircle<F>>⟧.fields F.CIRCLE_TWO_ADICITY
         log_blowup) matrices.now (lists_of points.now) }
-    requires right { All (AreWeightsOf ⟦<EF as OverCircle<F>>⟧.fields log_blowup) all.old.items }
-    ensures right { OnOk result
-        (All (AreWeightsOf ⟦<EF as OverCircle<F>>⟧.fields log_blowup) all.new.items) }
     ensures count { IfOk result (λ v. length v.items ≡ length points.now) }
     ensures values { IfOk result (λ v. AreBatchValues ⟦<EF as OverCircle<F>>⟧.fields log_blowup
         matrices.now (lists_of points.now) (opened_rows v.items)) }
 {
     let mut values = Vec::with_capacity(alloc, matrices.len())?;
     for (matrix, points) in matrices.iter().zip(points) {
-        let log_height = log2_strict(matrix.height());
-        values.push(opened_values(alloc, all, log_blowup, log_height, matrix, points)?)?;
+        let openable = MatrixAtPoints {
+            log_height: log2_strict(matrix.height()),
+            rows: matrix,
+            points,
+        };
+        values.push(openable.opened_values(alloc, all, log_blowup)?)?;
     }
     Ok(values)
 }

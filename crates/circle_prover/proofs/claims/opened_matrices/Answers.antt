@@ -162,7 +162,7 @@ loop-request-preserved g c =
     (vs : List (Vec (Vec g.row.EF.Denot Global) Global)). batch_committed k c.args.log_blowup ms
     (lists_of ps) (opened_rows vs) in
     let old = map (committed_of k c.args.log_blowup) c.loop-request.list.items in
-    let pushed = c.in_ok-push_matrices.ensures.matrices
+    let pushed = c.in_ok-push_matrices.ensures
     ∙ ap (λ ms. old ++ batch ms c.deref.result.now c.deref-in-loop-request.result.now)
     c.get_matrices-matrices.ensures
     ∙ ap (λ ps. old ++ batch (kept r.prover_data.now) ps c.deref-in-loop-request.result.now)
@@ -172,16 +172,13 @@ loop-request-preserved g c =
     let next = length_push c.loop-request.yielded (c.in-Some.request, c.in-Some.values) in
     let f = λ (q : OpeningRequest _ g.row.EF.Denot) (v : List (List (List g.row.EF.Denot))).
     batch_committed k c.args.log_blowup (kept q.prover_data.now) (points_of kept q) v in
-    record {
-      matrices = requests-more f requests (openings batches) i _ r (opened_rows b.items) old
-          (map (committed_of k c.args.log_blowup) c.push_matrices.new.list.items) next turn.0
-          (omega (arith, turn.1, length-map batches (λ v. opened_rows v.items))) (turn.2 r) here
-          pushed c.loop-request.invariant.matrices;
-      openable = c.in_ok-push_matrices.ensures.openable;
-    }
+    requests-more f requests (openings batches) i _ r (opened_rows b.items) old
+    (map (committed_of k c.args.log_blowup) c.push_matrices.new.list.items) next turn.0
+    (omega (arith, turn.1, length-map batches (λ v. opened_rows v.items))) (turn.2 r) here pushed
+    c.loop-request.invariant
 
-pub returns-clause-matrices : goal.returns-clause-matrices
-returns-clause-matrices g c =
+pub returns : goal.returns
+returns g c =
     let k : Fields g.row.F.Denot g.row.EF.Denot =
     record {
       field = g.F.Operations.ops;
@@ -204,7 +201,7 @@ returns-clause-matrices g c =
     c.loop-request.yielded_by c.in-None.is c.next.ensures.steps in
     let f = λ (q : OpeningRequest _ g.row.EF.Denot) (v : List (List (List g.row.EF.Denot))).
     batch_committed k c.args.log_blowup (kept q.prover_data.now) (points_of kept q) v in
-    c.loop-request.invariant.matrices
+    c.loop-request.invariant
     ∙ ap (flat_map (λ b. b))
     (pairwise-end f requests (openings batches) (length c.loop-request.yielded)
     (omega (arith, last, length-map batches (λ v. opened_rows v.items))))

@@ -1,14 +1,12 @@
-use Rattle.std.proofs.Common.{◌≡◌, ◌++◌, [], ◌∷◌, ◌∙◌, length, map, refl, ap, arith}
+use Rattle.std.proofs.Common.{◌≡◌, ◌++◌, [], ◌∙◌, length, map, refl, sym, ap, arith}
 use Rattle.std.proofs.lemmas.List.{length_push, length-map}
-use Rattle.std.proofs.lemmas.List.Elements.{All-push, All-same}
 use Rattle.circle_commit.specs.RowMajorMatrix.{height_of}
 use Rattle.circle_commit.specs.Mmcs.{opened_rows}
 use Rattle.circle_relation.specs.Accepts.{Fields}
 use Rattle.circle_codewords.specs.Words.{committed_of}
-use Rattle.circle_codewords.specs.declared.reduced.OpenedMatrix.{OpenedMatrix}
-use Rattle.circle_codewords.specs.Requests.{IsReady, lists_of, log_of}
-use Rattle.circle_prover.proofs.Requested.{committed-all, committed-is, committed-more, openable-at}
-use Rattle.circle_prover.proofs.Requested.{ready-is, valued-at}
+use Rattle.circle_codewords.specs.Requests.{lists_of, log_of}
+use Rattle.circle_prover.proofs.Requested.{committed-all, committed-more, openable-at}
+use Rattle.circle_prover.proofs.Requested.{as-wide, can-open, valued-at}
 use Rattle.circle_prover.proofs.Threes.{three-sources, three_turn, three_end}
 use Rattle.circle_prover.proofs.claims.push_matrices.Goals as goal
 
@@ -68,40 +66,63 @@ loop-matrix-preserved g c =
     let v = c.in-Some.values.now in
     let open_at = openable-at k c.args.log_blowup two ms points i m p c.requires.fit turn.0 turn.1
     turn.3 turn.4 in
-    let valued = valued-at k c.args.log_blowup ms points values i m p v c.requires.values turn.0
-    turn.1 turn.2 turn.3 turn.4 turn.5 in
     let log : c.log2_strict.result ≡ log_of (height_of m) =
     c.log2_strict.ensures.only (log_of (height_of m)) (c.height.ensures ∙ open_at.power) in
-    let o : OpenedMatrix g.row.F.Denot g.row.EF.Denot =
-    record {
-      log_height = c.log2_strict.result;
-      rows = c.in-Some.matrix;
-      points =
-          c.deref.result;
-      values = c.deref-in-loop-matrix.result;
-    } in
-    let old = c.loop-matrix.list.items in
-    let new = c.push.new.self.items in
-    let made = committed-is k c.args.log_blowup o m p.items v.items log refl c.deref.ensures.value
-    c.deref-in-loop-matrix.ensures.value in
     let next =
     length_push c.loop-matrix.yielded (
       c.in-Some.matrix,
       (c.in-Some.points, c.in-Some.values),
     ) in
-    let ready = ready-is k c.args.log_blowup two o m p.items v.items log refl c.deref.ensures.value
-    c.deref-in-loop-matrix.ensures.value open_at valued in
+    committed-more k c.args.log_blowup ms points values i _ _ m p v
+    (map (committed_of k c.args.log_blowup) c.args.list.now.items) c.loop-matrix.list.items
+    c.push.new.self.items next turn.0 turn.1 turn.2 turn.3 turn.4 turn.5 c.in_ok-push.ensures.items
+    log refl c.deref.ensures.value c.deref-in-loop-matrix.ensures.value c.loop-matrix.invariant
+
+pub invariant_of-push : goal.invariant_of-push
+invariant_of-push g c =
+    let k : Fields g.row.F.Denot g.row.EF.Denot =
     record {
-      matrices = committed-more k c.args.log_blowup ms points values i _ o m p v
-          (map (committed_of k c.args.log_blowup) c.args.list.now.items) old new next turn.0 turn.1
-          turn.2 turn.3 turn.4 turn.5 c.in_ok-push.ensures.items made
-          c.loop-matrix.invariant.matrices;
-      openable = All-same (IsReady k two) new (old ++ o ∷ []) c.in_ok-push.ensures.items
-          (All-push (IsReady k two) old o c.loop-matrix.invariant.openable ready);
+      field = g.F.Operations.ops;
+      gen = g.F.ComplexExtendable.generators;
+      two_adicity =
+          g.F.ComplexExtendable.CIRCLE_TWO_ADICITY;
+      is_zero = λ w. g.F.PartialEq.eq w g.F.Field.ZERO;
+      extension = g.EF.Operations.ops;
+      embed = g.EF.ExtensionField.embed;
+      same =
+          g.EF.PartialEq.eq;
+    } in
+    let two = g.F.ComplexExtendable.CIRCLE_TWO_ADICITY in
+    let ms = c.args.matrices.now in
+    let points = c.args.points.now in
+    let values = c.args.values.now in
+    let i = length c.loop-matrix.yielded in
+    let from = three-sources c.into_iter-matrix-iterator.ensures.into_iter_gives
+    c.zip-matrix-items.ensures.first c.iter.ensures.rest c.zip-matrix-items.ensures.second
+    c.zip.ensures.first c.iter-2.ensures.rest c.zip.ensures.second.0 in
+    let turn = three_turn ms points values c.loop-matrix.yielded _ _ c.next.new.self _ from.0 from.1
+    from.2 c.loop-matrix.yielded_by _ c.in-Some.is c.next.ensures.steps in
+    let m = c.in-Some.matrix.now in
+    let p = c.in-Some.points.now in
+    let v = c.in-Some.values.now in
+    let open_at = openable-at k c.args.log_blowup two ms points i m p c.requires.fit turn.0 turn.1
+    turn.3 turn.4 in
+    let valued = valued-at k c.args.log_blowup ms points values i m p v c.requires.values turn.0
+    turn.1 turn.2 turn.3 turn.4 turn.5 in
+    let log : c.log2_strict.result ≡ log_of (height_of m) =
+    c.log2_strict.ensures.only (log_of (height_of m)) (c.height.ensures ∙ open_at.power) in
+    record {
+      openable = can-open k c.args.log_blowup c.log2_strict.result m p.items c.deref.result.now log
+          c.deref.ensures.value open_at;
+      valued = ap length c.deref-in-loop-matrix.ensures.value
+          ∙ sym (length-map v.items (λ v. v.items)) ∙ valued.count
+          ∙ sym (ap length c.deref.ensures.value);
+      widths = as-wide k c.args.log_blowup m p.items v.items c.deref-in-loop-matrix.result.now
+          c.deref-in-loop-matrix.ensures.value valued;
     }
 
-pub returns-clause-matrices : goal.returns-clause-matrices
-returns-clause-matrices g c =
+pub returns : goal.returns
+returns g c =
     let k : Fields g.row.F.Denot g.row.EF.Denot =
     record {
       field = g.F.Operations.ops;
@@ -122,7 +143,7 @@ returns-clause-matrices g c =
     c.zip.ensures.first c.iter-2.ensures.rest c.zip.ensures.second.0 in
     let last = three_end ms points values c.loop-matrix.yielded _ _ c.next.new.self _ from.0 from.1
     from.2 c.loop-matrix.yielded_by c.in-None.is c.next.ensures.steps in
-    c.loop-matrix.invariant.matrices
+    c.loop-matrix.invariant
     ∙ ap (λ b. map (committed_of k c.args.log_blowup) c.args.list.now.items ++ b)
     (committed-all k c.args.log_blowup ms (lists_of points) (opened_rows values)
     (length c.loop-matrix.yielded)

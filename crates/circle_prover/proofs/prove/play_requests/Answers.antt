@@ -1,24 +1,19 @@
-use Rattle.std.proofs.Common.{suc, ◌≡◌, ◌+◌, ◌<◌, ◌≤◌, ◌^◌, List, All, map, flat_map, sym, ap, ◌∙◌}
-use Rattle.std.proofs.Common.{subst, arith, inl, inr}
+use Rattle.std.proofs.Common.{ℕ, length, ◌≡◌, ◌+◌, ◌<◌, ◌≤◌, ◌^◌, List, All, map, flat_map, sym}
+use Rattle.std.proofs.Common.{ap, ◌∙◌, subst, arith, inl, inr}
 use Rattle.std.specs.Prelude.{Ok}
 use Rattle.std.specs.List.{AllZip}
 use Rattle.std.specs.Prelude.{IfOk, slice_index_or}
-use Rattle.std.proofs.lemmas.Nat.{pow_pos}
 use Rattle.circle_commit.specs.Mmcs.{greatest}
 use Rattle.circle_commit.specs.Pcs.{Openings}
-use Rattle.circle_commit.specs.RowMajorMatrix.{height_of}
 use Rattle.circle_commit.specs.declared.params.FriParameters.{FriParameters}
 use Rattle.circle_commit.specs.declared.pcs.OpeningRequest.{OpeningRequest}
-use Rattle.circle_domain.specs.Selectors.{IsFinite}
 use Rattle.circle_relation.specs.Statement.{all_matrices, log_max_height}
-use Rattle.circle_codewords.specs.Words.{CanBeOpened}
 use Rattle.circle_codewords.specs.Requests.{AreAnswers, AreRequests}
 use Rattle.circle_relation.specs.Taken.{point_taken}
-use Rattle.circle_prover.specs.Words.{AreTall}
+use Rattle.std.proofs.lemmas.List.{get_or-map, length-map}
 use Rattle.std.proofs.lemmas.List.Elements.{All-map}
 use Rattle.circle_challenger.specs.Moves.{RunMoves, run_moves}
 use Rattle.circle_commit.specs.Pcs.{openings}
-use Rattle.circle_commit.specs.RowMajorMatrix.{width_of}
 use Rattle.circle_field.specs.Field.{of_nat}
 use Rattle.circle_relation.specs.Accepts.{Fields}
 use Rattle.circle_transcript.specs.Claims.{claims_of}
@@ -27,7 +22,7 @@ use Rattle.circle_transcript.specs.Numbers.{numbers_of}
 use Rattle.circle_transcript.specs.Runs.{drawn_of}
 use Rattle.circle_transcript.specs.ShapeOf.{batches_of, shape_of}
 use Rattle.circle_codewords.specs.Words.{Committed, committed_of}
-use Rattle.circle_codewords.specs.declared.reduced.OpenedMatrix.{OpenedMatrix}
+use Rattle.circle_codewords.specs.declared.matrix.OpenedMatrix.{OpenedMatrix}
 use Rattle.circle_prover.specs.Failure.{IsStuck, IsTooHigh}
 use Rattle.circle_prover.specs.Opening.{answered_claims}
 use Rattle.circle_codewords.specs.Requests.{all_committed}
@@ -75,17 +70,6 @@ abbrev nested : (g : Over) (params : FriParameters g.row.FriMmcs.Denot)
 nested g params requests values =
     all_committed g.InputMmcs.Mmcs.matrices (fields g) params.log_blowup requests values
 
-pub opened_claims-requires : goal.opened_claims-requires
-opened_claims-requires g c = record {
-  finite =
-      subst
-      (All (λ (m : OpenedMatrix g.row.Val.Denot g.row.EF.Denot). All (IsFinite g.EF.Operations.ops)
-      m.points.now)) (sym c.deref.ensures.value)
-      (λ i d lt. let m = slice_index_or c.in_ok-matrices.matrices.items i d in
-      (c.in_ok-matrices.ensures.openable i d lt (suc (width_of m.rows.now))
-      (omega arith)).off.0);
-}
-
 -- what is known of the greatest height
 abbrev IsHigh : (g : Over) (params : FriParameters g.row.FriMmcs.Denot)
     (requests : List (OpeningRequest g.row.InputMmcs-ProverData.Denot g.row.EF.Denot))
@@ -130,24 +114,14 @@ new-shape-requires-clause-high g c =
     c.requires.requests c.requires.values in
     let same = c.greatest_height.ensures
     ∙ ap
-    (λ (os : List (OpenedMatrix g.row.Val.Denot g.row.EF.Denot)). greatest
+    (λ (os : List (OpenedMatrix g.row.Val.Denot g.row.EF.Denot _)). greatest
     (map (λ m. m.log_height) os)) c.deref-2.ensures.value
     ∙ top-seen (fields g) c.args.params.now.log_blowup c.in_ok-matrices.matrices.items
-    ∙ ap top_of c.in_ok-matrices.ensures.matrices in
+    ∙ ap top_of c.in_ok-matrices.ensures in
     omega (arith, high, same)
 
-pub above_widths-num_powers-requires : goal.above_widths-num_powers-requires
-above_widths-num_powers-requires g c =
-    subst (All (λ (m : OpenedMatrix g.row.Val.Denot g.row.EF.Denot). 1 ≤ height_of m.rows.now))
-    (sym c.deref-3.ensures.value)
-    (λ i d lt.
-    let m = slice_index_or c.in_ok-matrices.matrices.items i d in
-    let ready = c.in_ok-matrices.ensures.openable i d lt (suc (width_of m.rows.now))
-    (omega arith) in
-    omega (arith, ready.rows, pow_pos m.log_height))
-
-pub open_words-requires-clause-claims : goal.open_words-requires-clause-claims
-open_words-requires-clause-claims g c =
+pub open-requires-clause-claims : goal.open-requires-clause-claims
+open-requires-clause-claims g c =
     let p = c.args.params.now in
     let l = g.EF.Operations.ops in
     let batches = nested g p c.args.requests.now (openings c.args.values.now) in
@@ -157,7 +131,7 @@ open_words-requires-clause-claims g c =
     ∙ c.in_ok-claims.ensures (fields g) p.log_blowup
     ∙ ap (flat_map (λ (m : Committed g.row.Val.Denot g.row.EF.Denot). map (point_taken l) m.claims))
     (ap (map (committed_of (fields g) p.log_blowup)) c.deref.ensures.value
-    ∙ c.in_ok-matrices.ensures.matrices) ∙ sym (all-taken p.log_blowup l batches) in
+    ∙ c.in_ok-matrices.ensures) ∙ sym (all-taken p.log_blowup l batches) in
     let wide = c.in_ok-widths.ensures
     ∙ sym (all-widths p.log_blowup g.InputMmcs.Mmcs.matrices (fields g) c.args.requests.now
     (openings c.args.values.now) c.requires.values) in
@@ -166,18 +140,18 @@ open_words-requires-clause-claims g c =
     (ap (λ ws. flat_map (λ m. m) (flat_map (λ b. b) ws))
     (ap (λ s. batches_of s.opened_widths.items) c.new-shape.ensures ∙ wide))
 
-pub open_words-requires-clause-small : goal.open_words-requires-clause-small
-open_words-requires-clause-small g c =
+pub open-requires-clause-small : goal.open-requires-clause-small
+open-requires-clause-small g c =
     let t = c.requires.parameters in
     let p = c.args.params.now in
     let high = is-high g p c.args.requests.now (openings c.args.values.now) c.requires.requests
     c.requires.values in
     let same = c.greatest_height.ensures
     ∙ ap
-    (λ (os : List (OpenedMatrix g.row.Val.Denot g.row.EF.Denot)). greatest
+    (λ (os : List (OpenedMatrix g.row.Val.Denot g.row.EF.Denot _)). greatest
     (map (λ m. m.log_height) os)) c.deref-2.ensures.value
     ∙ top-seen (fields g) p.log_blowup c.in_ok-matrices.matrices.items
-    ∙ ap top_of c.in_ok-matrices.ensures.matrices in
+    ∙ ap top_of c.in_ok-matrices.ensures in
     let flat = flat_map (λ b. b) (nested g p c.args.requests.now (openings c.args.values.now)) in
     let some = all-some (fields g) p.log_blowup g.InputMmcs.Mmcs.matrices c.args.requests.now
     (openings c.args.values.now) c.requires.values c.requires.requests.some
@@ -186,14 +160,13 @@ open_words-requires-clause-small g c =
     (subst
     (All
     (λ (m : Committed g.row.Val.Denot g.row.EF.Denot). m.log_height <
-    g.Val.ComplexExtendable.CIRCLE_TWO_ADICITY)) c.in_ok-matrices.ensures.matrices
+    g.Val.ComplexExtendable.CIRCLE_TWO_ADICITY)) c.in_ok-matrices.ensures
     (All-map
     (λ (m : Committed g.row.Val.Denot g.row.EF.Denot). m.log_height <
     g.Val.ComplexExtendable.CIRCLE_TWO_ADICITY) (committed_of (fields g) p.log_blowup)
     c.in_ok-matrices.matrices.items
     (λ i d lt. let m = slice_index_or c.in_ok-matrices.matrices.items i d in
-    (c.in_ok-matrices.ensures.openable i d lt (suc (width_of m.rows.now))
-    (omega arith)).in_group))) in
+    m.openable.in_group))) in
     let most = g.met.Val.ComplexExtendable.at_most_62 in
     let one = c.extra_query_index_bits-extra_bits.ensures in
     record {
@@ -209,33 +182,30 @@ open_words-requires-clause-small g c =
           omega (arith, is, high, low, most);
     }
 
-pub open_words-requires-clause-tall : goal.open_words-requires-clause-tall
-open_words-requires-clause-tall g c =
+pub invariant_of-foldable : goal.invariant_of-foldable
+invariant_of-foldable g c =
     let p = c.args.params.now in
-    subst (AreTall p)
-    (sym (ap (map (committed_of (fields g) p.log_blowup)) c.deref-5.ensures.value
-    ∙ c.in_ok-matrices.ensures.matrices)) (
-      all-some (fields g) p.log_blowup g.InputMmcs.Mmcs.matrices c.args.requests.now
-          (openings c.args.values.now) c.requires.values c.requires.requests.some
-          c.requires.requests.matrices,
-      heights-known (fields g) p.log_blowup (λ h. p.log_blowup + p.log_final_poly_len + 2 ≤ h)
-          g.InputMmcs.Mmcs.matrices c.args.requests.now (openings c.args.values.now)
-          c.requires.requests.tall,
-    )
-
-pub open_words-requires-clause-openable : goal.open_words-requires-clause-openable
-open_words-requires-clause-openable g c =
-    subst
-    (All
-    (CanBeOpened (fields g) g.Val.ComplexExtendable.CIRCLE_TWO_ADICITY
-    c.above_widths-num_powers.result)) (sym c.deref-5.ensures.value)
-    (λ i d lt.
-    c.in_ok-matrices.ensures.openable i d lt c.above_widths-num_powers.result
-    (subst
-    (All
-    (λ (m : OpenedMatrix g.row.Val.Denot g.row.EF.Denot). width_of m.rows.now <
-    c.above_widths-num_powers.result)) c.deref-3.ensures.value c.above_widths-num_powers.ensures
-    i d lt))
+    let requests = c.args.requests.now in
+    let values = openings c.args.values.now in
+    let kept = g.InputMmcs.Mmcs.matrices in
+    let Tall : ℕ → Type 0 = λ h. p.log_blowup + p.log_final_poly_len + 2 ≤ h in
+    let ms = c.deref-3.result.now in
+    let read : OpenedMatrix g.row.Val.Denot g.row.EF.Denot _ →
+    Committed g.row.Val.Denot g.row.EF.Denot = committed_of (fields g) p.log_blowup in
+    let are = ap (map read) c.deref-3.ensures.value ∙ c.in_ok-matrices.ensures in
+    let some = all-some (fields g) p.log_blowup kept requests values c.requires.values
+    c.requires.requests.some c.requires.requests.matrices in
+    let tall =
+    subst (All (λ (m : Committed g.row.Val.Denot g.row.EF.Denot). Tall m.log_height)) (sym are)
+    (heights-known (fields g) p.log_blowup Tall kept requests values c.requires.requests.tall) in
+    record {
+      blowup = c.requires.parameters.blowup;
+      some = omega (arith, some, ap length are, length-map ms read);
+      tall = λ i d lt.
+          subst (λ (m : Committed g.row.Val.Denot g.row.EF.Denot). Tall m.log_height)
+          (get_or-map read ms i d (read d) lt)
+          (tall i (read d) (omega (arith, lt, length-map ms read)));
+    }
 
 pub returns-clause-below : goal.returns-clause-below
 returns-clause-below g c =
@@ -244,33 +214,33 @@ returns-clause-below g c =
     c.requires.values in
     let same = c.greatest_height.ensures
     ∙ ap
-    (λ (os : List (OpenedMatrix g.row.Val.Denot g.row.EF.Denot)). greatest
+    (λ (os : List (OpenedMatrix g.row.Val.Denot g.row.EF.Denot _)). greatest
     (map (λ m. m.log_height) os)) c.deref-2.ensures.value
     ∙ top-seen (fields g) p.log_blowup c.in_ok-matrices.matrices.items
-    ∙ ap top_of c.in_ok-matrices.ensures.matrices in
+    ∙ ap top_of c.in_ok-matrices.ensures in
     let ms =
-    ap top_of (ap (map (committed_of (fields g) p.log_blowup)) c.deref-5.ensures.value
-    ∙ c.in_ok-matrices.ensures.matrices) in
+    ap top_of (ap (map (committed_of (fields g) p.log_blowup)) c.deref-3.ensures.value
+    ∙ c.in_ok-matrices.ensures) in
     let is = ap (λ s. s.index_bits) c.new-shape.ensures in
     let one = c.extra_query_index_bits-extra_bits.ensures in
-    if_ok2 c.open_words.result _ _ _
+    if_ok2 c.open.result _ _ _
     (λ w known low.
     let bits : c.new-shape.result.index_bits ≡ w.log_max_height = let top = known.top in
     omega (arith, is, one, high, same, ms, top) in
     subst (λ n. All (λ q. q < 2 ^ n) w.draws.indices.items) bits low)
-    c.open_words.ensures.words c.open_words.ensures.below
+    c.open.ensures.words c.open.ensures.below
 
 pub returns-clause-some : goal.returns-clause-some
 returns-clause-some g c =
     let r = challenger g in
     let shape = shape_of c.new-shape.result in
     let is = ap (λ s. s.num_queries) c.new-shape.ensures in
-    if_ok2 c.open_words.result _ _ _
+    if_ok2 c.open.result _ _ _
     (λ w drawn again.
     let count = queries-count r (numbers_of shape) (taken_in (claims_of c.deref-4.result.now) w) _ _
     drawn in
     omega (arith, count, is, c.requires.parameters.queries))
-    c.open_words.ensures.draws c.open_words.ensures.draws
+    c.open.ensures.draws c.open.ensures.draws
 
 pub returns-clause-easy : goal.returns-clause-easy
 returns-clause-easy g c =
@@ -287,16 +257,16 @@ returns-clause-easy g c =
     All (λ a. a ≡ zero) w.witnesses.rounds.items in
     let Query : Words → Type 0 = λ w. c.new-shape.result.query_pow_bits ≡ 0 → w.witnesses.query
     ≡ zero in
-    if_ok2 c.open_words.result (λ w. Batch w × Rounds w) Query _
+    if_ok2 c.open.result (λ w. Batch w × Rounds w) Query _
     (λ w both last. record {
       batch = λ none. both.0 (batch ∙ none);
       rounds =
           λ none. both.1 (commit ∙ none);
       query = λ none. last (query ∙ none);
     })
-    (if_ok2 c.open_words.result Batch Rounds (λ w. Batch w × Rounds w)
-    (λ w first second. (first, second)) c.open_words.ensures.easy_batch
-    c.open_words.ensures.easy_rounds) c.open_words.ensures.easy_query
+    (if_ok2 c.open.result Batch Rounds (λ w. Batch w × Rounds w)
+    (λ w first second. (first, second)) c.open.ensures.easy_batch
+    c.open.ensures.easy_rounds) c.open.ensures.easy_query
 
 pub returns-clause-draws : goal.returns-clause-draws
 returns-clause-draws g c =
@@ -310,16 +280,16 @@ returns-clause-draws g c =
     ∙ c.in_ok-claims.ensures (fields g) p.log_blowup
     ∙ ap (flat_map (λ (m : Committed g.row.Val.Denot g.row.EF.Denot). map (point_taken l) m.claims))
     (ap (map (committed_of (fields g) p.log_blowup)) c.deref.ensures.value
-    ∙ c.in_ok-matrices.ensures.matrices) ∙ sym (all-taken p.log_blowup l batches) in
+    ∙ c.in_ok-matrices.ensures) ∙ sym (all-taken p.log_blowup l batches) in
     let wide = c.in_ok-widths.ensures
     ∙ sym (all-widths p.log_blowup g.InputMmcs.Mmcs.matrices (fields g) c.args.requests.now
     (openings c.args.values.now) c.requires.values) in
     let high = c.greatest_height.ensures
     ∙ ap
-    (λ (os : List (OpenedMatrix g.row.Val.Denot g.row.EF.Denot)). greatest
+    (λ (os : List (OpenedMatrix g.row.Val.Denot g.row.EF.Denot _)). greatest
     (map (λ m. m.log_height) os)) c.deref-2.ensures.value
     ∙ top-seen (fields g) p.log_blowup c.in_ok-matrices.matrices.items
-    ∙ ap top_of c.in_ok-matrices.ensures.matrices
+    ∙ ap top_of c.in_ok-matrices.ensures
     ∙ sym (is-top g p c.args.requests.now (openings c.args.values.now) c.requires.requests) in
     let shape = shape_is p claims (batches_of c.in_ok-widths.widths.items) c.greatest_height.result
     c.extra_query_index_bits-extra_bits.result (shape_of c.new-shape.result)
@@ -328,30 +298,30 @@ returns-clause-draws g c =
     let Words : Type 0 =
     CommittedWords g.row.Val.Denot g.row.EF.Denot g.row.FriMmcs-Commitment.Denot
     g.row.FriMmcs-ProverData.Denot in
-    let end = g.C.ChallengerState.state c.open_words.new.challenger in
+    let end = g.C.ChallengerState.state c.open.new.challenger in
     let before : Words → Type 0 =
     λ w. draw r (shape_of c.new-shape.result) (taken_in (claims_of c.deref-4.result.now) w) s
     ≡ Ok (drawn_of g.EF.ExtensionField.coefficients w.draws end) in
     let after : Words → Type 0 =
     λ w. draw r (shape_by p claims) (taken_in (claims_taken l claims) w) s
     ≡ Ok (drawn_of g.EF.ExtensionField.coefficients w.draws end) in
-    if_ok2 c.open_words.result before before after
+    if_ok2 c.open.result before before after
     (λ w drawn again.
     draw-moved r (shape_of c.new-shape.result) (shape_by p claims)
     (taken_in (claims_of c.deref-4.result.now) w) (taken_in (claims_taken l claims) w) s
     (Ok (drawn_of g.EF.ExtensionField.coefficients w.draws end)) shape
     (ap (λ cs. taken_in cs w) taken) drawn)
-    c.open_words.ensures.draws c.open_words.ensures.draws
+    c.open.ensures.draws c.open.ensures.draws
 
 pub returns-clause-words : goal.returns-clause-words
 returns-clause-words g c =
     let p = c.args.params.now in
     subst
-    (λ ms. IfOk c.open_words.result
+    (λ ms. IfOk c.open.result
     (AreWordsOf (fields g) p.log_blowup p.log_final_poly_len (g.FriMmcs.Mmcs.commits p.mmcs)
     g.FriMmcs.Mmcs.matrices ms))
-    (ap (map (committed_of (fields g) p.log_blowup)) c.deref-5.ensures.value
-    ∙ c.in_ok-matrices.ensures.matrices) c.open_words.ensures.words
+    (ap (map (committed_of (fields g) p.log_blowup)) c.deref-3.ensures.value
+    ∙ c.in_ok-matrices.ensures) c.open.ensures.words
 
 pub returns-clause-failure : goal.returns-clause-failure
 returns-clause-failure g c =
@@ -367,26 +337,26 @@ returns-clause-failure g c =
     ∙ c.in_ok-claims.ensures (fields g) p.log_blowup
     ∙ ap (flat_map (λ (m : Committed g.row.Val.Denot g.row.EF.Denot). map (point_taken l) m.claims))
     (ap (map (committed_of (fields g) p.log_blowup)) c.deref.ensures.value
-    ∙ c.in_ok-matrices.ensures.matrices) ∙ sym (all-taken p.log_blowup l batches) in
+    ∙ c.in_ok-matrices.ensures) ∙ sym (all-taken p.log_blowup l batches) in
     let wide = c.in_ok-widths.ensures
     ∙ sym (all-widths p.log_blowup g.InputMmcs.Mmcs.matrices (fields g) c.args.requests.now
     (openings c.args.values.now) c.requires.values) in
     let high = c.greatest_height.ensures
     ∙ ap
-    (λ (os : List (OpenedMatrix g.row.Val.Denot g.row.EF.Denot)). greatest
+    (λ (os : List (OpenedMatrix g.row.Val.Denot g.row.EF.Denot _)). greatest
     (map (λ m. m.log_height) os)) c.deref-2.ensures.value
     ∙ top-seen (fields g) p.log_blowup c.in_ok-matrices.matrices.items
-    ∙ ap top_of c.in_ok-matrices.ensures.matrices
+    ∙ ap top_of c.in_ok-matrices.ensures
     ∙ sym (is-top g p c.args.requests.now (openings c.args.values.now) c.requires.requests) in
     let shape = shape_is p claims (batches_of c.in_ok-widths.widths.items) c.greatest_height.result
     c.extra_query_index_bits-extra_bits.result (shape_of c.new-shape.result)
     (ap shape_of c.new-shape.ensures) wide high c.extra_query_index_bits-extra_bits.ensures in
     let s = g.C.ChallengerState.state c.args.challenger.now in
     let flat = flat_map (λ b. b) batches in
-    let are : map (committed_of (fields g) p.log_blowup) c.deref-5.result.now ≡ flat =
-    ap (map (committed_of (fields g) p.log_blowup)) c.deref-5.ensures.value
-    ∙ c.in_ok-matrices.ensures.matrices in
-    if_err _ _ c.open_words.result
+    let are : map (committed_of (fields g) p.log_blowup) c.deref-3.result.now ≡ flat =
+    ap (map (committed_of (fields g) p.log_blowup)) c.deref-3.ensures.value
+    ∙ c.in_ok-matrices.ensures in
+    if_err _ _ c.open.result
     (λ e why.
     elim why [
       | inl refused ↦ inl refused
@@ -409,4 +379,4 @@ returns-clause-failure g c =
                 are stuck))))
           ]
     ])
-    c.open_words.ensures.failure
+    c.open.ensures.failure

@@ -1,12 +1,12 @@
-use Rattle.std.specs.Prelude.{IsTrue, Some, unwrap_or}
+use Rattle.std.specs.Prelude.{Ok, Some, unwrap_or}
 use Rattle.std.proofs.lemmas.List.{length-map}
 use Rattle.std.proofs.Common.{◌≡◌, ◌<◌, All, ◌∙◌, sym, ap, subst, arith, length, map, inr}
-use Rattle.circle_challenger.specs.Moves.{RunMoves, run_moves}
-use Rattle.circle_field.specs.Field.{of_nat}
+use Rattle.circle_commit.specs.declared.params.PowPhase.TheVariants.{CommitPhase}
 use Rattle.circle_commit.specs.RowMajorMatrix.{length-rows, rows, width_of}
 use Rattle.circle_relation.specs.Accepts.{Fields}
 use Rattle.circle_codewords.specs.Words.{IsNextWord, pairs_of}
-use Rattle.circle_transcript.specs.Transcript.{after_commit, commit_challenge, commit_passes}
+use Rattle.circle_transcript.specs.Transcript.{commit_from, run_of, state_of}
+use Rattle.circle_transcript.proofs.Phases.{missed_in}
 use Rattle.circle_transcript.proofs.Playing.{handed_on, unwrap_none}
 use Rattle.circle_prover.specs.Failure.{IsRoundFailure}
 use Rattle.circle_relation.specs.Failures.{prover_error}
@@ -33,25 +33,16 @@ fold_round-requires-clause-rows g c =
     sym (length-rows layer) ∙ ap length is_layer
     ∙ length-pairs_of word c.args.log_height c.requires.positive c.requires.word
 
--- what the challenger is to the run
-abbrev challenger : (g : Over) →
-    RunMoves g.row.C.Denot g.row.C-State.Denot g.row.F.Denot g.row.EF.Denot g.row.M-Commitment.Denot
-challenger g = run_moves g.C.ChallengerState.state g.C.CanObserve-1.after_observe
-    g.C.CanObserve-2.after_observe g.C.CanSample.sampled g.C.CanSample.after_sample
-    g.C.CanSampleBits.sampled_bits g.C.CanSampleBits.after_bits g.C.GrindingChallenger.found_witness
-    g.EF.ExtensionField.DEGREE g.EF.ExtensionField.coefficients (of_nat g.F.Operations.ops)
-    g.F.Operations.ops.zero
-
 pub returns-in_err-beta-clause-failure : goal.returns-in_err-beta-clause-failure
 returns-in_err-beta-clause-failure g c =
     handed_on c.from_residual-in_err-beta.result (prover_error c.in_err-beta.field-0.0)
-    (IsRoundFailure (challenger g) (g.M.Mmcs.commits c.args.mmcs.now) c.args.transcript.now
-    c.args.word.items) c.from_residual-in_err-beta.ensures.1
+    (IsRoundFailure (run_of c.args.transcript.now) (g.M.Mmcs.commits c.args.mmcs.now)
+    c.args.transcript.now c.args.word.items) c.from_residual-in_err-beta.ensures.1
     (inr (
       ap prover_error c.in_err-beta.ensures.failure,
       c.in_ok-commitment.commitment,
       (g.M.Mmcs.matrices c.in_ok-commitment.kept, c.in_ok-commitment.ensures),
-      c.in_err-beta.ensures.none,
+      λ w. missed_in CommitPhase _ _ _ (c.in_err-beta.ensures.none w),
     ))
 
 pub commit_round-requires-clause-next : goal.commit_round-requires-clause-next
@@ -85,33 +76,15 @@ returns-clause-found g c =
     ∙ ap (unwrap_or c.in_ok-beta.witness) (c.ZERO.ensures ∙ g.met.F.Field.zero_law) in
     c.in_ok-beta.ensures.found ∙ ap Some (sym is_witness)
 
-pub returns-clause-passes : goal.returns-clause-passes
-returns-clause-passes g c =
+pub returns-clause-played : goal.returns-clause-played
+returns-clause-played g c =
     let is_witness : c.unwrap_or.result ≡ unwrap_or c.in_ok-beta.witness g.F.Operations.ops.zero =
     c.unwrap_or.ensures
     ∙ ap (unwrap_or c.in_ok-beta.witness) (c.ZERO.ensures ∙ g.met.F.Field.zero_law) in
     subst
-    (λ w. IsTrue
-    (commit_passes (challenger g) c.args.transcript.now c.in_ok-commitment.commitment w))
-    (sym is_witness) c.in_ok-beta.ensures.passes
-
-pub returns-clause-challenge : goal.returns-clause-challenge
-returns-clause-challenge g c =
-    let is_witness : c.unwrap_or.result ≡ unwrap_or c.in_ok-beta.witness g.F.Operations.ops.zero =
-    c.unwrap_or.ensures
-    ∙ ap (unwrap_or c.in_ok-beta.witness) (c.ZERO.ensures ∙ g.met.F.Field.zero_law) in
-    c.in_ok-beta.ensures.challenge
-    ∙ ap (commit_challenge (challenger g) c.args.transcript.now c.in_ok-commitment.commitment)
-    (sym is_witness)
-
-pub returns-clause-state : goal.returns-clause-state
-returns-clause-state g c =
-    let is_witness : c.unwrap_or.result ≡ unwrap_or c.in_ok-beta.witness g.F.Operations.ops.zero =
-    c.unwrap_or.ensures
-    ∙ ap (unwrap_or c.in_ok-beta.witness) (c.ZERO.ensures ∙ g.met.F.Field.zero_law) in
-    c.in_ok-beta.ensures.state
-    ∙ ap (after_commit (challenger g) c.args.transcript.now c.in_ok-commitment.commitment)
-    (sym is_witness)
+    (λ w. commit_from c.args.transcript.now c.in_ok-commitment.commitment w
+    ≡ Ok (g.EF.ExtensionField.coefficients c.in_ok-beta.beta, state_of c.commit_round.new.self))
+    (sym is_witness) c.in_ok-beta.ensures.played
 
 pub returns-clause-committed : goal.returns-clause-committed
 returns-clause-committed g c = c.in_ok-commitment.ensures

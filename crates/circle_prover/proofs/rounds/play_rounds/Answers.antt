@@ -4,10 +4,8 @@ use Rattle.std.proofs.Common.{sym, ap, ◌∙◌, subst, arith, inl, inr}
 use Rattle.std.proofs.lemmas.List.{map-append, length_push}
 use Rattle.std.proofs.lemmas.Slice.Zip.{length-zip}
 use Rattle.std.proofs.lemmas.List.Elements.{All-nil}
-use Rattle.circle_challenger.specs.Moves.{RunMoves, run_moves}
-use Rattle.circle_field.specs.Field.{of_nat}
 use Rattle.circle_relation.specs.Accepts.{Fields}
-use Rattle.circle_transcript.specs.Transcript.{numbers}
+use Rattle.circle_transcript.specs.Transcript.{numbers, run_of, state_of}
 use Rattle.circle_transcript.proofs.Playing.{handed_on, zeros_pushed}
 use Rattle.circle_transcript.proofs.Runs.{rounds_all, next_round, rounds_none}
 use Rattle.circle_prover.specs.Failure.{IsRoundsFailure}
@@ -17,15 +15,6 @@ use Rattle.circle_prover.proofs.Growing.{word_at-kept, word_at-next, rounds_begu
 use Rattle.circle_prover.proofs.Growing.{played_begun, played_more, stuck_after, words_committed}
 use Rattle.circle_prover.proofs.rounds.play_rounds.Given.{Over}
 use Rattle.circle_prover.proofs.rounds.play_rounds.Goals as goal
-
--- what the challenger is to the run
-abbrev challenger : (g : Over) →
-    RunMoves g.row.C.Denot g.row.C-State.Denot g.row.F.Denot g.row.EF.Denot g.row.M-Commitment.Denot
-challenger g = run_moves g.C.ChallengerState.state g.C.CanObserve-1.after_observe
-    g.C.CanObserve-2.after_observe g.C.CanSample.sampled g.C.CanSample.after_sample
-    g.C.CanSampleBits.sampled_bits g.C.CanSampleBits.after_bits g.C.GrindingChallenger.found_witness
-    g.EF.ExtensionField.DEGREE g.EF.ExtensionField.coefficients (of_nat g.F.Operations.ops)
-    g.F.Operations.ops.zero
 
 -- the fields of the run
 abbrev fields : (g : Over) → Fields g.row.F.Denot g.row.EF.Denot
@@ -44,7 +33,7 @@ fields g =
 pub loop-i-init : goal.loop-i-init
 loop-i-init g c =
     let bits = (numbers c.args.transcript.now).commit_pow_bits in
-    let begun = g.C.ChallengerState.state c.args.transcript.now.challenger.now in
+    let begun = state_of c.args.transcript.now in
     let coefficients = g.EF.ExtensionField.coefficients in
     let no_commitments = c.in_ok-rounds.ensures.commitments in
     let no_kept = c.in_ok-rounds.ensures.kept in
@@ -58,7 +47,7 @@ loop-i-init g c =
       betas = ap length no_betas;
       easy = λ none. subst (All (λ w. w ≡ g.F.Operations.ops.zero)) (sym no_witnesses)
           (All-nil (λ w. w ≡ g.F.Operations.ops.zero));
-      played = played_begun (challenger g) bits begun begun _ _ _ no_commitments
+      played = played_begun (run_of c.args.transcript.now) bits begun begun _ _ _ no_commitments
           (ap (map coefficients) no_betas);
       length = c.requires.first ∙ ap (λ n. 2 ^ n) (omega arith);
       committed = λ f are. rounds_begun _ _ _ _ _ no_kept no_commitments;
@@ -77,9 +66,9 @@ play_round-requires-clause-next g c =
 
 pub returns-in_err-round-clause-failure : goal.returns-in_err-round-clause-failure
 returns-in_err-round-clause-failure g c =
-    let r = challenger g in
+    let r = run_of c.args.transcript.now in
     let bits = (numbers c.args.transcript.now).commit_pow_bits in
-    let begun = g.C.ChallengerState.state c.args.transcript.now.challenger.now in
+    let begun = state_of c.args.transcript.now in
     let same_bits = ap (λ v. v.commit_pow_bits) c.loop-i.invariant.same.shape in
     let before = c.loop-i.invariant in
     let rounds = c.loop-i.rounds in
@@ -112,13 +101,13 @@ returns-in_err-round-clause-failure g c =
 
 pub loop-i-preserved : goal.loop-i-preserved
 loop-i-preserved g c =
-    let r = challenger g in
+    let r = run_of c.args.transcript.now in
     let k = fields g in
     let degree = g.EF.ExtensionField.DEGREE in
     let coefficients = g.EF.ExtensionField.coefficients in
     let zero = g.F.Operations.ops.zero in
     let bits = (numbers c.args.transcript.now).commit_pow_bits in
-    let begun = g.C.ChallengerState.state c.args.transcript.now.challenger.now in
+    let begun = state_of c.args.transcript.now in
     let n = c.args.num_rounds in
     let i = c.loop-i.i in
     let h = c.args.log_height in
@@ -155,8 +144,8 @@ loop-i-preserved g c =
           (map coefficients old.betas.items) (map coefficients new.betas.items)
           (coefficients round.beta) _ _ (before.commitments ∙ sym before.witnesses)
           added.commitments added.witnesses same_bits before.played
-          played.found played.passes played.challenge (ap (map coefficients) added.betas
-          ∙ map-append coefficients old.betas.items (round.beta ∷ [])) played.state;
+          played.found played.played (ap (map coefficients) added.betas
+          ∙ map-append coefficients old.betas.items (round.beta ∷ []));
       length = ap length is_word ∙ played.length ∙ ap (λ m. 2 ^ m) (omega arith);
       committed = λ f are.
           rounds_more (g.M.Mmcs.commits c.args.mmcs.now) g.M.Mmcs.matrices
@@ -249,6 +238,7 @@ play_round-requires-clause-in_group g c = omega (arith, c.requires.in_group)
 pub returns-in_err-word-clause-failure : goal.returns-in_err-word-clause-failure
 returns-in_err-word-clause-failure g c =
     handed_on c.from_residual-in_err-word.result Memory
-    (IsRoundsFailure (challenger g) (g.M.Mmcs.commits c.args.mmcs.now) c.args.transcript.now
-    (fields g) c.args.heights.now c.args.folded.now c.args.log_height c.args.first.items
+    (IsRoundsFailure (run_of c.args.transcript.now) (g.M.Mmcs.commits c.args.mmcs.now)
+    c.args.transcript.now (fields g) c.args.heights.now c.args.folded.now c.args.log_height
+    c.args.first.items
     c.args.num_rounds) c.from_residual-in_err-word.ensures.1 (inl refl)

@@ -1,11 +1,9 @@
 use Rattle.std.specs.Prelude.{zip, All}
 use Rattle.std.proofs.Common.{◌≡◌, ℕ, ◌-◌, ◌^◌, ◌++◌, List, map, length}
-use Rattle.circle_field.specs.Field.{of_nat}
-use Rattle.circle_challenger.specs.Moves.{run_moves}
 use Rattle.circle_challenger.specs.Step.{Step}
 use Rattle.circle_relation.specs.Accepts.{Fields}
 use Rattle.circle_transcript.specs.Shape.{rounds_steps}
-use Rattle.circle_transcript.specs.Transcript.{current, due, numbers, IsSame}
+use Rattle.circle_transcript.specs.Transcript.{due, numbers, run_of, state_of, IsSame}
 use Rattle.circle_prover.specs.Words.{AreRounds, HavePlayed, word_at}
 use Rattle.circle_prover.proofs.rounds.play_rounds.Given as goal
 
@@ -13,11 +11,7 @@ use Rattle.circle_prover.proofs.rounds.play_rounds.Given as goal
 -- codeword is there, and the other rounds are due
 abbrev pub invariant-loop-i : goal.invariant-loop-i
 invariant-loop-i g l =
-    let r = run_moves g.C.ChallengerState.state g.C.CanObserve-1.after_observe
-    g.C.CanObserve-2.after_observe g.C.CanSample.sampled g.C.CanSample.after_sample
-    g.C.CanSampleBits.sampled_bits g.C.CanSampleBits.after_bits
-    g.C.GrindingChallenger.found_witness g.EF.ExtensionField.DEGREE
-    g.EF.ExtensionField.coefficients (of_nat g.F.Operations.ops) g.F.Operations.ops.zero in
+    let r = run_of l.initial.transcript in
     let k : Fields g.row.F.Denot g.row.EF.Denot =
     record {
       field = g.F.Operations.ops;
@@ -32,7 +26,7 @@ invariant-loop-i g l =
     } in
     let degree = g.EF.ExtensionField.DEGREE in
     let bits = (numbers l.initial.transcript).commit_pow_bits in
-    let begun = g.C.ChallengerState.state (current l.initial.transcript) in
+    let begun = state_of l.initial.transcript in
     record {
       same : IsSame l.initial.transcript l.transcript;
       due : (rest : List Step) → due l.initial.transcript ≡ rounds_steps degree bits l.num_rounds
@@ -41,7 +35,7 @@ invariant-loop-i g l =
       witnesses : length l.rounds.witnesses.items ≡ l.i;
       betas : length l.rounds.betas.items ≡ l.i;
       easy : bits ≡ 0 → All (λ w. w ≡ g.F.Operations.ops.zero) l.rounds.witnesses.items;
-      played : HavePlayed r bits begun (g.C.ChallengerState.state (current l.transcript))
+      played : HavePlayed r bits begun (state_of l.transcript)
           (zip l.rounds.commitments.items l.rounds.witnesses.items)
           (map g.EF.ExtensionField.coefficients l.rounds.betas.items);
       length : length l.word.items ≡ 2 ^ (l.log_height - l.i);

@@ -1,9 +1,8 @@
-use Rattle.std.proofs.Common.{◌≡◌, length, take, All}
+use Rattle.std.proofs.Common.{◌≡◌, length, take}
 use Rattle.std.specs.Prelude.{zip}
 use Rattle.std.specs.List.{AllZip}
 use Rattle.circle_commit.specs.Mmcs.{opened_rows}
 use Rattle.circle_relation.specs.Accepts.{Fields}
-use Rattle.circle_codewords.specs.Values.{AreWeightsOf}
 use Rattle.circle_codewords.specs.Requests.{AreValuesOf, lists_of}
 use Rattle.circle_prover.proofs.values.batch_values.Given as goal
 
@@ -24,7 +23,6 @@ invariant-loop-matrix g l =
     } in
     let i = length l.yielded in
     record {
-      right : All (AreWeightsOf k l.log_blowup) l.all.items;
       count : length l.values.items ≡ i;
       values : AllZip (λ m rest. AreValuesOf k l.log_blowup m rest.0 rest.1) (take i l.matrices)
           (zip (take i (lists_of l.points)) (opened_rows l.values.items));

@@ -10,8 +10,8 @@ use Rattle.circle_codewords.specs.Requests.{AreAnswers, AreValuesOf, IsFit, IsOp
 use Rattle.circle_prover.proofs.Requested.{pushed-more}
 use Rattle.circle_prover.proofs.values.requested_values.Goals as goal
 
-pub batch_values-requires-clause-fit : goal.batch_values-requires-clause-fit
-batch_values-requires-clause-fit g c =
+pub batch_values-requires : goal.batch_values-requires
+batch_values-requires g c =
     let k : Fields g.row.F.Denot g.row.EF.Denot =
     record {
       field = g.F.Operations.ops;
@@ -30,9 +30,12 @@ batch_values-requires-clause-fit g c =
     let fit = subst (IsFit kept k c.args.log_blowup g.F.ComplexExtendable.CIRCLE_TWO_ADICITY)
     (sym c.request-item.is)
     (c.requires.fit c.loop-request.request-index r c.loop-request-test.true) in
-    subst (λ ps. AllZip R c.get_matrices-matrices.result.now (lists_of ps))
-    (sym c.deref.ensures.value)
-    (subst (λ ms. AllZip R ms (lists_of r.points.items)) (sym c.get_matrices-matrices.ensures) fit)
+    record {
+      fit = subst (λ ps. AllZip R c.get_matrices-matrices.result.now (lists_of ps))
+          (sym c.deref.ensures.value)
+          (subst (λ ms. AllZip R ms (lists_of r.points.items))
+          (sym c.get_matrices-matrices.ensures) fit);
+    }
 
 pub loop-request-preserved : goal.loop-request-preserved
 loop-request-preserved g c =
@@ -68,15 +71,11 @@ loop-request-preserved g c =
       length-map made.items (λ v. lists_of v.items) ∙ c.in_ok-batch_values.ensures.count
           ∙ ap length c.deref.ensures.value ∙ sym (length-map r.points.items (λ v. v.items)),
     ) in
-    record {
-      right = c.in_ok-batch_values.ensures.right;
-      values =
-          subst (AllZip (AreAnswers kept k c.args.log_blowup) _)
-          (sym (ap openings c.in_ok-push.ensures.items ∙ map-append rows old (made ∷ [])))
-          (pushed-more (AreAnswers kept k c.args.log_blowup) c.args.requests.now
-          c.loop-request.request-index r (openings old) values c.loop-request-test.true
-          c.request-item.is c.loop-request.invariant.values here);
-    }
+    subst (AllZip (AreAnswers kept k c.args.log_blowup) _)
+    (sym (ap openings c.in_ok-push.ensures.items ∙ map-append rows old (made ∷ [])))
+    (pushed-more (AreAnswers kept k c.args.log_blowup) c.args.requests.now
+    c.loop-request.request-index r (openings old) values c.loop-request-test.true c.request-item.is
+    c.loop-request.invariant here)
 
 pub returns : goal.returns
 returns g c =
@@ -96,4 +95,4 @@ returns g c =
     (λ rs. AllZip (AreAnswers g.M.Mmcs.matrices k c.args.log_blowup) rs
     (openings c.loop-request.values.items))
     (take_all c.loop-request.request-index c.args.requests.now c.loop-request-test.false)
-    c.loop-request.invariant.values
+    c.loop-request.invariant

@@ -1,8 +1,7 @@
-use Rattle.std.proofs.Common.{take, All}
+use Rattle.std.proofs.Common.{take}
 use Rattle.std.specs.List.{AllZip}
 use Rattle.circle_commit.specs.Pcs.{openings}
 use Rattle.circle_relation.specs.Accepts.{Fields}
-use Rattle.circle_codewords.specs.Values.{AreWeightsOf}
 use Rattle.circle_codewords.specs.Requests.{AreAnswers}
 use Rattle.circle_prover.proofs.values.requested_values.Given as goal
 
@@ -21,8 +20,5 @@ invariant-loop-request g l =
       same =
           g.EF.PartialEq.eq;
     } in
-    record {
-      right : All (AreWeightsOf k l.log_blowup) l.all.items;
-      values : AllZip (AreAnswers g.M.Mmcs.matrices k l.log_blowup)
-          (take l.request-index l.requests) (openings l.values.items);
-    }
+    AllZip (AreAnswers g.M.Mmcs.matrices k l.log_blowup) (take l.request-index l.requests)
+    (openings l.values.items)

@@ -1,19 +1,18 @@
-use Rattle.std.proofs.Common.{◌<◌, ◌^◌, All, rules, sym, ap, ◌∙◌, subst, inl, inr, map}
+use Rattle.std.proofs.Common.{◌<◌, ◌^◌, All, rules, sym, ap, ◌∙◌, subst, inl, inr}
 use Rattle.circle_field.specs.Field.{of_nat}
 use Rattle.circle_challenger.specs.Moves.{RunMoves, run_moves}
-use Rattle.circle_relation.specs.Accepts.{Fields}
 use Rattle.circle_transcript.specs.Claims.{claims_of}
 use Rattle.circle_transcript.specs.Draw.{widths_of}
 use Rattle.circle_transcript.specs.Numbers.{numbers_of, run_steps}
 use Rattle.circle_transcript.specs.ShapeOf.{shape_of}
 use Rattle.circle_transcript.specs.Runs.{ArePlayable}
 use Rattle.circle_transcript.proofs.Playing.{or_moved}
-use Rattle.circle_codewords.specs.Words.{committed_of}
 use Rattle.circle_prover.specs.Failure.{IsStuck}
-use Rattle.circle_prover.specs.Words.{rounds_for, taken_in}
+use Rattle.circle_prover.specs.OfFoldable.{fields_of, round_count, seen}
+use Rattle.circle_prover.specs.Words.{taken_in}
 use Rattle.circle_prover.proofs.Stuck.{drawn-moved}
-use Rattle.circle_prover.proofs.run.open_words.Given.{Over}
-use Rattle.circle_prover.proofs.run.open_words.Goals as goal
+use Rattle.circle_prover.proofs.foldable.FoldableMatrices.open.Given.{Over}
+use Rattle.circle_prover.proofs.foldable.FoldableMatrices.open.Goals as goal
 
 -- what the challenger is to the run
 abbrev challenger : (g : Over) →
@@ -23,19 +22,6 @@ challenger g = run_moves g.C.ChallengerState.state g.C.CanObserve-1.after_observ
     g.C.CanSampleBits.sampled_bits g.C.CanSampleBits.after_bits g.C.GrindingChallenger.found_witness
     g.EF.ExtensionField.DEGREE g.EF.ExtensionField.coefficients (of_nat g.F.Operations.ops)
     g.F.Operations.ops.zero
-
-abbrev fields : (g : Over) → Fields g.row.F.Denot g.row.EF.Denot
-fields g =
-    record {
-      field = g.F.Operations.ops;
-      gen = g.F.ComplexExtendable.generators;
-      two_adicity =
-          g.F.ComplexExtendable.CIRCLE_TWO_ADICITY;
-      is_zero = λ w. g.F.PartialEq.eq w g.F.Field.ZERO;
-      extension = g.EF.Operations.ops;
-      embed = g.EF.ExtensionField.embed;
-      same = g.EF.PartialEq.eq;
-    }
 
 pub returns-in-Ok-clause-draws : goal.returns-in-Ok-clause-draws
 returns-in-Ok-clause-draws g c =
@@ -51,33 +37,32 @@ returns-in-Err-clause-failure g c =
       | inl refused ↦ inl refused
       | inr rest ↦ inr
           (or_moved
-          (λ n s. IsStuck (challenger g) (g.M.Mmcs.commits c.args.params.now.mmcs) (fields g)
-          c.args.params.now
-          (map (committed_of (fields g) c.args.params.now.log_blowup) c.args.matrices.now) n
+          (λ n s. IsStuck (challenger g) (g.M.Mmcs.commits c.args.self.now.params.now.mmcs)
+          (fields_of c.args.self.now) c.args.self.now.params.now (seen c.args.self.now) n
           (claims_of c.args.claims.now) s c.in-Err.failure) _ _ _ _
           (c.of_seeded-transcript.ensures.shape ∙ c.in_ok-seeded.ensures.shape)
           (ap g.C.ChallengerState.state c.of_seeded-transcript.ensures.same
           ∙ c.in_ok-seeded.ensures.state) rest)
     ]
 
-pub play_words-requires-clause-next : goal.play_words-requires-clause-next
-play_words-requires-clause-next g c =
+pub play-requires-clause-next : goal.play-requires-clause-next
+play-requires-clause-next g c =
     let degree = g.EF.ExtensionField.DEGREE in
     let widths = widths_of (claims_of c.args.claims.now) in
     let n = numbers_of (shape_of c.args.shape) in
     c.of_seeded-transcript.ensures.due ∙ c.in_ok-seeded.ensures.due
     ∙ ap (λ v. run_steps degree v c.args.shape.num_commit_rounds n) (sym c.requires.claims)
     ∙ ap (λ k. run_steps degree widths k n) c.requires.rounds
-    ∙ ap (run_steps degree widths (rounds_for c.args.params.now c.args.matrices.now))
+    ∙ ap (run_steps degree widths (round_count c.args.self.now))
     (sym (c.of_seeded-transcript.ensures.shape ∙ c.in_ok-seeded.ensures.shape))
 
-pub play_words-requires-clause-small : goal.play_words-requires-clause-small
-play_words-requires-clause-small g c =
+pub play-requires-clause-small : goal.play-requires-clause-small
+play-requires-clause-small g c =
     subst ArePlayable (sym (c.of_seeded-transcript.ensures.shape ∙ c.in_ok-seeded.ensures.shape))
     c.requires.small
 
-pub play_words-requires-clause-coefficients : goal.play_words-requires-clause-coefficients
-play_words-requires-clause-coefficients g c =
+pub play-requires-clause-coefficients : goal.play-requires-clause-coefficients
+play-requires-clause-coefficients g c =
     ap (λ n. n.log_final_poly_len) (c.of_seeded-transcript.ensures.shape
     ∙ c.in_ok-seeded.ensures.shape) ∙ c.requires.coefficients
 

@@ -1,105 +1,49 @@
-use Rattle.std.specs.Prelude.{IsTrue, Ok, Err, unwrap_or, zip}
-use Rattle.std.proofs.Common.{◌≡◌, ◌<◌, ◌≤◌, ◌-◌, ◌+◌, ◌^◌, ◌++◌, [], ℕ, List, All, length, map}
+use Rattle.std.specs.Prelude.{Ok, Err, unwrap_or, zip}
+use Rattle.std.proofs.Common.{◌≡◌, ◌<◌, ◌≤◌, ◌-◌, ◌+◌, ◌^◌, ◌++◌, [], ℕ, All, length, map}
 use Rattle.std.proofs.Common.{take, refl, sym, ap, ◌∙◌, subst, arith, inl, inr}
-use Rattle.std.proofs.lemmas.List.Elements.{All-map}
 use Rattle.std.proofs.lemmas.Slice.Zip.{length-zip}
-use Rattle.circle_challenger.specs.Moves.{RunMoves, run_moves, after_element, after_pow}
-use Rattle.circle_challenger.specs.Moves.{drawn_element, is_passed}
 use Rattle.circle_commit.specs.Mmcs.{greatest}
-use Rattle.circle_commit.specs.declared.params.PowPhase.TheVariants.{CommitPhase, Query}
-use Rattle.circle_field.specs.Field.{of_nat}
-use Rattle.circle_relation.specs.Accepts.{Fields}
+use Rattle.circle_commit.specs.declared.params.PowPhase.TheVariants.{Batch, CommitPhase, Query}
 use Rattle.circle_transcript.specs.Claims.{claims_of}
-use Rattle.circle_transcript.specs.Draw.{after_final_poly, after_indices, draw_seeded}
-use Rattle.circle_transcript.specs.Draw.{drawn_indices, taken}
+use Rattle.circle_transcript.specs.Draw.{after_final_poly, draw_seeded, taken}
 use Rattle.circle_transcript.specs.Numbers.{indices_steps}
 use Rattle.circle_transcript.specs.Shape.{rounds_steps}
 use Rattle.circle_transcript.specs.Runs.{NonePasses}
-use Rattle.circle_transcript.specs.Transcript.{numbers}
+use Rattle.circle_transcript.specs.Transcript.{numbers, query_from, run_of, state_of}
 use Rattle.circle_transcript.specs.declared.transcript.Numbers.{Numbers}
-use Rattle.circle_transcript.proofs.Drawn.{AtRounds, at_layer, at_query, all_drawn, drawn_parts}
+use Rattle.circle_transcript.proofs.Drawn.{AtRounds, at_query, all_drawn, drawn_parts}
+use Rattle.circle_transcript.proofs.Drawn.{batch_drawn, layer_drawn, rounds_begin}
+use Rattle.circle_transcript.proofs.Phases.{missed_in, told}
 use Rattle.circle_transcript.proofs.Playing.{handed_on, unwrap_none}
 use Rattle.circle_transcript.proofs.Runs.{indices_due}
 use Rattle.circle_domain.specs.Spans.{HasXValues, XSpan}
-use Rattle.circle_codewords.specs.Words.{Committed, HaveHeights, committed_of, lambda}
-use Rattle.circle_prover.specs.Failure.{Begins, IsRunFailure}
+use Rattle.circle_codewords.specs.Words.{HaveHeights}
+use Rattle.circle_prover.specs.Failure.{Begins}
+use Rattle.circle_prover.specs.OfFoldable.{IsRunFailure, fields_of, seen}
 use Rattle.circle_relation.specs.Failures.{prover_error}
-use Rattle.circle_prover.specs.Words.{AreCommitted, first_fold, heights_of, layer_of, round_word}
+use Rattle.circle_prover.specs.Words.{first_fold, round_word}
 use Rattle.circle_prover.specs.Words.{top_of}
 use Rattle.circle_prover.proofs.Growing.{words_committed}
-use Rattle.circle_prover.proofs.Tops.{folds-split, front-of, height-known, heights-end, lower}
-use Rattle.circle_prover.proofs.Tops.{some-heights, split-last, rounds-alike, top-known}
+use Rattle.circle_prover.proofs.Tops.{folds-split, front-of, heights-end, lower}
+use Rattle.circle_prover.proofs.Tops.{some-heights, split-last, rounds-alike}
 use Rattle.circle_prover.proofs.Tops.{words-alike}
-use Rattle.circle_prover.proofs.Seen.{top-seen}
+use Rattle.circle_prover.proofs.TallMatrices.{heights-fit, tall-seen, top-is, top-low, top-tall}
 use Rattle.circle_prover.proofs.Stuck.{rounds-moved, stuck-moved, stuck-query}
-use Rattle.circle_prover.proofs.run.play_words.Given.{Over}
-use Rattle.circle_prover.proofs.run.play_words.Goals as goal
-
-abbrev fields : (g : Over) → Fields g.row.F.Denot g.row.EF.Denot
-fields g =
-    record {
-      field = g.F.Operations.ops;
-      gen = g.F.ComplexExtendable.generators;
-      two_adicity =
-          g.F.ComplexExtendable.CIRCLE_TWO_ADICITY;
-      is_zero = λ w. g.F.PartialEq.eq w g.F.Field.ZERO;
-      extension = g.EF.Operations.ops;
-      embed = g.EF.ExtensionField.embed;
-      same = g.EF.PartialEq.eq;
-    }
-
-pub commit_first_layer-requires-clause-some : goal.commit_first_layer-requires-clause-some
-commit_first_layer-requires-clause-some g c =
-    let ms = map (committed_of (fields g) c.args.params.now.log_blowup) c.args.matrices.now in
-    subst (λ hs. 1 ≤ length hs)
-    (sym
-    (c.deref.ensures.value ∙ c.in_ok-heights.ensures (fields g) c.args.params.now.log_blowup))
-    (some-heights ms c.requires.tall.0)
-
-pub commit_first_layer-requires-clause-heights : goal.commit_first_layer-requires-clause-heights
-commit_first_layer-requires-clause-heights g c =
-    let ms = map (committed_of (fields g) c.args.params.now.log_blowup) c.args.matrices.now in
-    let P : ℕ → Type 0 = λ h. (c.args.params.now.log_blowup < h)
-    × (h < g.F.ComplexExtendable.CIRCLE_TWO_ADICITY) in
-    subst (All P)
-    (sym
-    (c.deref.ensures.value ∙ c.in_ok-heights.ensures (fields g) c.args.params.now.log_blowup))
-    (height-known ms P
-    (λ i m lt.
-    let tall = c.requires.tall.1 i m lt in
-    let low =
-    All-map
-    (λ (v : Committed g.row.F.Denot g.row.EF.Denot). v.log_height <
-    g.F.ComplexExtendable.CIRCLE_TWO_ADICITY)
-    (committed_of (fields g) c.args.params.now.log_blowup) c.args.matrices.now
-    (λ j d inside. (c.requires.openable j d inside).in_group) i m lt in
-    (omega (arith, tall), low)))
+use Rattle.circle_prover.proofs.foldable.FoldableMatrices.play.Goals as goal
 
 pub fold_first_layer-requires-clause-some : goal.fold_first_layer-requires-clause-some
 fold_first_layer-requires-clause-some g c =
-    let ms = map (committed_of (fields g) c.args.params.now.log_blowup) c.args.matrices.now in
+    let ms = seen c.args.self.now in
     subst (λ hs. 1 ≤ length hs)
     (sym
-    (c.deref-2.ensures.value ∙ c.in_ok-heights.ensures (fields g) c.args.params.now.log_blowup))
-    (some-heights ms c.requires.tall.0)
+    (c.deref.ensures.value ∙ c.in_ok-layer.ensures.heights))
+    (some-heights ms (tall-seen c.args.self.now).0)
 
 pub fold_first_layer-requires-clause-heights : goal.fold_first_layer-requires-clause-heights
 fold_first_layer-requires-clause-heights g c =
-    let ms = map (committed_of (fields g) c.args.params.now.log_blowup) c.args.matrices.now in
     let P : ℕ → Type 0 = λ h. (1 ≤ h) × (h < g.F.ComplexExtendable.CIRCLE_TWO_ADICITY) in
-    subst (All P)
-    (sym
-    (c.deref-2.ensures.value ∙ c.in_ok-heights.ensures (fields g) c.args.params.now.log_blowup))
-    (height-known ms P
-    (λ i m lt.
-    let tall = c.requires.tall.1 i m lt in
-    let low =
-    All-map
-    (λ (v : Committed g.row.F.Denot g.row.EF.Denot). v.log_height <
-    g.F.ComplexExtendable.CIRCLE_TWO_ADICITY)
-    (committed_of (fields g) c.args.params.now.log_blowup) c.args.matrices.now
-    (λ j d inside. (c.requires.openable j d inside).in_group) i m lt in
-    (omega (arith, tall), low)))
+    subst (All P) (sym (c.deref.ensures.value ∙ c.in_ok-layer.ensures.heights))
+    (λ i d lt. let fits = heights-fit c.args.self.now i d lt in (omega (arith, fits.0), fits.1))
 
 pub first_layer-bivariate-requires : goal.first_layer-bivariate-requires
 first_layer-bivariate-requires g c =
@@ -107,64 +51,45 @@ first_layer-bivariate-requires g c =
 
 pub overflow_add-log_points : goal.overflow_add-log_points
 overflow_add-log_points g c =
-    let ms = map (committed_of (fields g) c.args.params.now.log_blowup) c.args.matrices.now in
-    let tall =
-    top-known ms (λ h. c.args.params.now.log_blowup + c.args.params.now.log_final_poly_len
-    + 2 ≤ h) c.requires.tall.0 c.requires.tall.1 in
-    let low = top-known ms (λ h. h < g.F.ComplexExtendable.CIRCLE_TWO_ADICITY) c.requires.tall.0
-    (All-map
-    (λ (v : Committed g.row.F.Denot g.row.EF.Denot). v.log_height <
-    g.F.ComplexExtendable.CIRCLE_TWO_ADICITY)
-    (committed_of (fields g) c.args.params.now.log_blowup) c.args.matrices.now
-    (λ j d inside. (c.requires.openable j d inside).in_group)) in
+    let ms = seen c.args.self.now in
+    let tall = top-tall c.args.self.now in
+    let low = top-low c.args.self.now in
     omega (arith, tall, low, g.met.F.ComplexExtendable.at_most_62)
 
 pub overflow_sub-log_max_height : goal.overflow_sub-log_max_height
 overflow_sub-log_max_height g c =
-    let tall =
-    top-known (map (committed_of (fields g) c.args.params.now.log_blowup) c.args.matrices.now)
-    (λ h. c.args.params.now.log_blowup + c.args.params.now.log_final_poly_len + 2 ≤ h)
-    c.requires.tall.0 c.requires.tall.1 in
+    let tall = top-tall c.args.self.now in
     omega (
       arith,
       tall,
-      (c.greatest_height-log_max_height.ensures ∙ top-seen (fields g) c.args.params.now.log_blowup
-          c.args.matrices.now),
+      (c.greatest_height-log_max_height.ensures ∙ top-is c.args.self.now),
     )
 
 pub overflow_sub-log_max_height-2 : goal.overflow_sub-log_max_height-2
 overflow_sub-log_max_height-2 g c =
-    let tall =
-    top-known (map (committed_of (fields g) c.args.params.now.log_blowup) c.args.matrices.now)
-    (λ h. c.args.params.now.log_blowup + c.args.params.now.log_final_poly_len + 2 ≤ h)
-    c.requires.tall.0 c.requires.tall.1 in
+    let tall = top-tall c.args.self.now in
     omega (
       arith,
       tall,
-      (c.greatest_height-log_max_height.ensures ∙ top-seen (fields g) c.args.params.now.log_blowup
-          c.args.matrices.now),
+      (c.greatest_height-log_max_height.ensures ∙ top-is c.args.self.now),
     )
 
 pub overflow_sub-log_max_height-3 : goal.overflow_sub-log_max_height-3
 overflow_sub-log_max_height-3 g c =
-    let tall =
-    top-known (map (committed_of (fields g) c.args.params.now.log_blowup) c.args.matrices.now)
-    (λ h. c.args.params.now.log_blowup + c.args.params.now.log_final_poly_len + 2 ≤ h)
-    c.requires.tall.0 c.requires.tall.1 in
+    let tall = top-tall c.args.self.now in
     omega (
       arith,
       tall,
-      (c.greatest_height-log_max_height.ensures ∙ top-seen (fields g) c.args.params.now.log_blowup
-          c.args.matrices.now),
+      (c.greatest_height-log_max_height.ensures ∙ top-is c.args.self.now),
     )
 
 pub play_rounds-requires-clause-next : goal.play_rounds-requires-clause-next
 play_rounds-requires-clause-next g c =
     let degree = g.EF.ExtensionField.DEGREE in
     let n = numbers c.args.transcript.now in
-    let b = c.args.params.now.log_blowup in
-    let f = c.args.params.now.log_final_poly_len in
-    let top = greatest (map (λ m. m.log_height) c.args.matrices.now) in
+    let b = c.args.self.now.params.now.log_blowup in
+    let f = c.args.self.now.params.now.log_final_poly_len in
+    let top = greatest (map (λ m. m.log_height) c.args.self.now.matrices.now) in
     let same2 = c.first_layer-bivariate.ensures.same.shape ∙ c.batch_phase.ensures.same.shape in
     let count : top - 1 - b - f ≡ c.greatest_height-log_max_height.result - 1 - (b + f) =
     omega (arith, c.greatest_height-log_max_height.ensures) in (
@@ -179,104 +104,87 @@ play_rounds-requires-clause-next g c =
 
 pub play_rounds-requires-clause-first : goal.play_rounds-requires-clause-first
 play_rounds-requires-clause-first g c =
-    let ms = map (committed_of (fields g) c.args.params.now.log_blowup) c.args.matrices.now in
+    let ms = seen c.args.self.now in
     let size : ℕ → ℕ = λ h. 2 ^ (h - 1) in
     let all = c.in_ok-tallest.ensures.lengths
     ∙ ap (map size)
-    (c.deref-2.ensures.value ∙ c.in_ok-heights.ensures (fields g) c.args.params.now.log_blowup
-    ∙ heights-end ms c.requires.tall.0) in
+    (c.deref.ensures.value ∙ c.in_ok-layer.ensures.heights
+    ∙ heights-end ms (tall-seen c.args.self.now).0) in
     (split-last size (map (λ w. length w.items) c.in_ok-tallest.joining.items)
     (length c.in_ok-tallest.tallest.items) (lower ms) (top_of ms) all).1
     ∙ ap size
     (sym (c.greatest_height-log_max_height.ensures
-    ∙ top-seen (fields g) c.args.params.now.log_blowup c.args.matrices.now))
+    ∙ top-is c.args.self.now))
 
 pub play_rounds-requires-clause-in_group : goal.play_rounds-requires-clause-in_group
 play_rounds-requires-clause-in_group g c =
-    let ms = map (committed_of (fields g) c.args.params.now.log_blowup) c.args.matrices.now in
-    let tall =
-    top-known ms (λ h. c.args.params.now.log_blowup + c.args.params.now.log_final_poly_len
-    + 2 ≤ h) c.requires.tall.0 c.requires.tall.1 in
-    let low = top-known ms (λ h. h < g.F.ComplexExtendable.CIRCLE_TWO_ADICITY) c.requires.tall.0
-    (All-map
-    (λ (v : Committed g.row.F.Denot g.row.EF.Denot). v.log_height <
-    g.F.ComplexExtendable.CIRCLE_TWO_ADICITY)
-    (committed_of (fields g) c.args.params.now.log_blowup) c.args.matrices.now
-    (λ j d inside. (c.requires.openable j d inside).in_group)) in
+    let ms = seen c.args.self.now in
+    let tall = top-tall c.args.self.now in
+    let low = top-low c.args.self.now in
     omega (
       arith,
       tall,
       low,
-      (c.greatest_height-log_max_height.ensures ∙ top-seen (fields g) c.args.params.now.log_blowup
-          c.args.matrices.now),
+      (c.greatest_height-log_max_height.ensures ∙ top-is c.args.self.now),
     )
 
 pub play_rounds-requires-clause-words : goal.play_rounds-requires-clause-words
 play_rounds-requires-clause-words g c =
-    let ms = map (committed_of (fields g) c.args.params.now.log_blowup) c.args.matrices.now in
+    let ms = seen c.args.self.now in
     let size : ℕ → ℕ = λ h. 2 ^ (h - 1) in
-    let same = c.deref-2.ensures.value
-    ∙ c.in_ok-heights.ensures (fields g) c.args.params.now.log_blowup
-    ∙ heights-end ms c.requires.tall.0 in
+    let same = c.deref.ensures.value
+    ∙ c.in_ok-layer.ensures.heights
+    ∙ heights-end ms (tall-seen c.args.self.now).0 in
     let all = c.in_ok-tallest.ensures.lengths ∙ ap (map size) same in
     let joining =
     (split-last size (map (λ w. length w.items) c.in_ok-tallest.joining.items)
     (length c.in_ok-tallest.tallest.items) (lower ms) (top_of ms) all).0 in
-    let kept : take (c.len.result - 1) c.deref-3.result.now ≡ lower ms =
-    front-of c.deref-3.result.now c.len.result (lower ms) (top_of ms)
-    (c.deref-3.ensures.value ∙ c.in_ok-heights.ensures (fields g) c.args.params.now.log_blowup
-    ∙ heights-end ms c.requires.tall.0)
-    (c.len.ensures ∙ c.in_ok-heights.heights.ok.0
-    ∙ ap length (c.in_ok-heights.ensures (fields g) c.args.params.now.log_blowup
-    ∙ heights-end ms c.requires.tall.0)) in
-    ap (map (λ w. length w.items)) c.deref-4.ensures.value ∙ joining ∙ ap (map size) (sym kept)
+    let kept : take (c.len.result - 1) c.deref-2.result.now ≡ lower ms =
+    front-of c.deref-2.result.now c.len.result (lower ms) (top_of ms)
+    (c.deref-2.ensures.value ∙ c.in_ok-layer.ensures.heights
+    ∙ heights-end ms (tall-seen c.args.self.now).0)
+    (c.len.ensures ∙ c.in_ok-layer.layer.heights.ok.0
+    ∙ ap length (c.in_ok-layer.ensures.heights
+    ∙ heights-end ms (tall-seen c.args.self.now).0)) in
+    ap (map (λ w. length w.items)) c.deref-3.ensures.value ∙ joining ∙ ap (map size) (sym kept)
 
 pub final_coefficients-requires-clause-length : goal.final_coefficients-requires-clause-length
 final_coefficients-requires-clause-length g c =
-    let tall =
-    top-known (map (committed_of (fields g) c.args.params.now.log_blowup) c.args.matrices.now)
-    (λ h. c.args.params.now.log_blowup + c.args.params.now.log_final_poly_len + 2 ≤ h)
-    c.requires.tall.0 c.requires.tall.1 in
+    let tall = top-tall c.args.self.now in
     let left : c.greatest_height-log_max_height.result - 1 -
     (c.greatest_height-log_max_height.result - 1 -
-    (c.args.params.now.log_blowup + c.args.params.now.log_final_poly_len)) ≡
-    c.args.params.now.log_blowup + c.args.params.now.log_final_poly_len =
+    (c.args.self.now.params.now.log_blowup + c.args.self.now.params.now.log_final_poly_len)) ≡
+    c.args.self.now.params.now.log_blowup + c.args.self.now.params.now.log_final_poly_len =
     omega (
       arith,
       tall,
-      (c.greatest_height-log_max_height.ensures ∙ top-seen (fields g) c.args.params.now.log_blowup
-          c.args.matrices.now),
+      (c.greatest_height-log_max_height.ensures ∙ top-is c.args.self.now),
     ) in
-    ap length c.deref-5.ensures.value ∙ c.in_ok-rounds.ensures.length ∙ ap (λ n. 2 ^ n) left
+    ap length c.deref-4.ensures.value ∙ c.in_ok-rounds.ensures.length ∙ ap (λ n. 2 ^ n) left
 
 pub final_coefficients-requires-clause-in_group : goal.final_coefficients-requires-clause-in_group
 final_coefficients-requires-clause-in_group g c =
-    let ms = map (committed_of (fields g) c.args.params.now.log_blowup) c.args.matrices.now in
-    let tall =
-    top-known ms (λ h. c.args.params.now.log_blowup + c.args.params.now.log_final_poly_len
-    + 2 ≤ h) c.requires.tall.0 c.requires.tall.1 in
-    let low = top-known ms (λ h. h < g.F.ComplexExtendable.CIRCLE_TWO_ADICITY) c.requires.tall.0
-    (All-map
-    (λ (v : Committed g.row.F.Denot g.row.EF.Denot). v.log_height <
-    g.F.ComplexExtendable.CIRCLE_TWO_ADICITY)
-    (committed_of (fields g) c.args.params.now.log_blowup) c.args.matrices.now
-    (λ j d inside. (c.requires.openable j d inside).in_group)) in
+    let ms = seen c.args.self.now in
+    let tall = top-tall c.args.self.now in
+    let low = top-low c.args.self.now in
     omega (arith, tall, low)
 
--- what the challenger is to the run
-abbrev challenger : (g : Over) →
-    RunMoves g.row.C.Denot g.row.C-State.Denot g.row.F.Denot g.row.EF.Denot g.row.M-Commitment.Denot
-challenger g = run_moves g.C.ChallengerState.state g.C.CanObserve-1.after_observe
-    g.C.CanObserve-2.after_observe g.C.CanSample.sampled g.C.CanSample.after_sample
-    g.C.CanSampleBits.sampled_bits g.C.CanSampleBits.after_bits g.C.GrindingChallenger.found_witness
-    g.EF.ExtensionField.DEGREE g.EF.ExtensionField.coefficients (of_nat g.F.Operations.ops)
-    g.F.Operations.ops.zero
+pub returns-in_err-alpha-clause-failure : goal.returns-in_err-alpha-clause-failure
+returns-in_err-alpha-clause-failure g c =
+    handed_on c.from_residual.result (prover_error c.in_err-alpha.field-0.0)
+    (IsRunFailure c.args.self.now (run_of c.args.transcript.now) g.M.Mmcs.commits c.args.claims.now
+    c.args.transcript.now) c.from_residual.ensures.1
+    (inr (inr (
+      Batch,
+      ap prover_error c.in_err-alpha.ensures.failure,
+      λ w. missed_in Batch _ _ _ (c.in_err-alpha.ensures.none w),
+    )))
 
 pub returns-in_err-rounds-clause-failure : goal.returns-in_err-rounds-clause-failure
 returns-in_err-rounds-clause-failure g c =
-    let k = fields g in
-    let p = c.args.params.now in
-    let ms = map (committed_of (fields g) c.args.params.now.log_blowup) c.args.matrices.now in
+    let k = fields_of c.args.self.now in
+    let p = c.args.self.now.params.now in
+    let ms = seen c.args.self.now in
     let b = p.log_blowup in
     let f = p.log_final_poly_len in
     let commits = g.M.Mmcs.commits p.mmcs in
@@ -284,62 +192,57 @@ returns-in_err-rounds-clause-failure g c =
     let bivariate = c.first_layer-bivariate.result in
     let layers = g.M.Mmcs.matrices c.in_ok-layer.layer.kept in
     let fold = first_fold k b ms alpha bivariate in
-    let tall = top-known ms (λ h. b + f + 2 ≤ h) c.requires.tall.0 c.requires.tall.1 in
-    let hs1 : c.deref.result.now ≡ heights_of ms = c.deref.ensures.value
-    ∙ c.in_ok-heights.ensures (fields g) c.args.params.now.log_blowup in
-    let committed =
-    subst
-    (λ hs. AreCommitted commits (map (layer_of k b ms alpha) hs) layers
-    c.in_ok-layer.layer.commitment) hs1 c.in_ok-layer.ensures.committed in
+    let tall = top-tall c.args.self.now in
+    let committed = c.in_ok-layer.ensures.committed in
     let both =
-    folds-split k b ms alpha bivariate c.deref-2.result.now layers
+    folds-split k b ms alpha bivariate c.deref.result.now layers
     (map (λ w. w.items) c.in_ok-tallest.joining.items) c.in_ok-tallest.tallest.items
-    c.requires.tall.0
-    (c.deref-2.ensures.value ∙ c.in_ok-heights.ensures (fields g) c.args.params.now.log_blowup)
+    (tall-seen c.args.self.now).0
+    (c.deref.ensures.value ∙ c.in_ok-layer.ensures.heights)
     committed.rows c.in_ok-tallest.ensures.words in
-    let ends = c.in_ok-heights.ensures (fields g) c.args.params.now.log_blowup
-    ∙ heights-end ms c.requires.tall.0 in
-    let kept : take (c.len.result - 1) c.deref-3.result.now ≡ lower ms =
-    front-of c.deref-3.result.now c.len.result (lower ms) (top_of ms)
-    (c.deref-3.ensures.value ∙ ends) (c.len.ensures ∙ c.in_ok-heights.heights.ok.0
+    let ends = c.in_ok-layer.ensures.heights
+    ∙ heights-end ms (tall-seen c.args.self.now).0 in
+    let kept : take (c.len.result - 1) c.deref-2.result.now ≡ lower ms =
+    front-of c.deref-2.result.now c.len.result (lower ms) (top_of ms)
+    (c.deref-2.ensures.value ∙ ends) (c.len.ensures ∙ c.in_ok-layer.layer.heights.ok.0
     ∙ ap length ends) in
-    let are : map (λ w. w.items) c.deref-4.result.now ≡ map fold
-    (take (c.len.result - 1) c.deref-3.result.now) =
-    ap (map (λ w. w.items)) c.deref-4.ensures.value ∙ both.0 ∙ ap (map fold) (sym kept) in
+    let are : map (λ w. w.items) c.deref-3.result.now ≡ map fold
+    (take (c.len.result - 1) c.deref-2.result.now) =
+    ap (map (λ w. w.items)) c.deref-3.ensures.value ∙ both.0 ∙ ap (map fold) (sym kept) in
     let high = c.greatest_height-log_max_height.ensures
-    ∙ top-seen (fields g) c.args.params.now.log_blowup c.args.matrices.now in
-    let alike = words-alike k b ms alpha bivariate (take (c.len.result - 1) c.deref-3.result.now)
-    c.greatest_height-log_max_height.result c.in_ok-tallest.tallest.items c.requires.tall.0
+    ∙ top-is c.args.self.now in
+    let alike = words-alike k b ms alpha bivariate (take (c.len.result - 1) c.deref-2.result.now)
+    c.greatest_height-log_max_height.result c.in_ok-tallest.tallest.items (tall-seen
+    c.args.self.now).0
     (omega (arith, tall)) kept high both.1 in
     let count : c.greatest_height-log_max_height.result - 1 - (b + f) ≡ top_of ms - 1 - b - f =
     omega (arith, high) in
-    let r = challenger g in
+    let r = run_of c.args.transcript.now in
     let zero = g.F.Operations.ops.zero in
     let n = numbers c.args.transcript.now in
-    let s = g.C.ChallengerState.state c.args.transcript.now.challenger.now in
+    let s = state_of c.args.transcript.now in
     let claims = claims_of c.args.claims.now in
     let all = taken claims (unwrap_or c.in_ok-alpha.batch zero) c.in_ok-layer.layer.commitment [] []
     zero in
     let same2 = c.first_layer-bivariate.ensures.same.shape ∙ c.batch_phase.ensures.same.shape in
-    let second : AtRounds r n all s (numbers c.first_layer-bivariate.new.self)
-    (g.C.ChallengerState.state c.first_layer-bivariate.new.self.challenger.now) =
+    let second : AtRounds r n all s (g.EF.ExtensionField.coefficients c.in_ok-alpha.alpha)
+    (g.EF.ExtensionField.coefficients c.first_layer-bivariate.result)
+    (numbers c.first_layer-bivariate.new.self) (state_of c.first_layer-bivariate.new.self) =
     record {
       same = same2;
-      batch = c.in_ok-alpha.ensures.passes;
-      state =
-          c.first_layer-bivariate.ensures.state
-          ∙ ap (after_element r.base) (at_layer r n all s _ c.in_ok-alpha.ensures.state);
+      after = state_of c.batch_phase.new.self;
+      batch = c.in_ok-alpha.ensures.played;
+      layer = c.first_layer-bivariate.ensures.played;
     } in
     let begins : Begins r commits k p ms n claims s all alpha bivariate = record {
       same = refl;
       found = c.in_ok-alpha.ensures.found;
-      batching = c.in_ok-alpha.ensures.challenge;
+      batching = batch_drawn r n all s _ _ _ _ second;
       first_layer = (layers, committed);
-      folding = c.first_layer-bivariate.ensures.challenge
-          ∙ ap (drawn_element r.base) (at_layer r n all s _ c.in_ok-alpha.ensures.state);
+      folding = layer_drawn r n all s _ _ _ _ second;
     } in
     handed_on c.from_residual-in_err-rounds.result c.in_err-rounds.field-0.0
-    (IsRunFailure r commits k p c.args.matrices.now c.args.claims.now c.args.transcript.now)
+    (IsRunFailure c.args.self.now r g.M.Mmcs.commits c.args.claims.now c.args.transcript.now)
     c.from_residual-in_err-rounds.ensures.1
     (elim c.in_err-rounds.ensures.failure [
       | inl refused ↦ inl refused
@@ -353,16 +256,16 @@ returns-in_err-rounds-clause-failure g c =
               bivariate = bivariate;
               begins = begins;
               stuck = stuck-moved r commits n (numbers c.first_layer-bivariate.new.self) _ _ _ _ _ _
-                  same2 second.state count alike (stuck.1 fold are);
+                  same2 (rounds_begin r n all s _ _ _ _ second) count alike (stuck.1 fold are);
             },
           ))
     ])
 
 pub returns-in_err-final_poly-clause-failure : goal.returns-in_err-final_poly-clause-failure
 returns-in_err-final_poly-clause-failure g c =
-    let k = fields g in
-    let p = c.args.params.now in
-    let ms = map (committed_of (fields g) c.args.params.now.log_blowup) c.args.matrices.now in
+    let k = fields_of c.args.self.now in
+    let p = c.args.self.now.params.now in
+    let ms = seen c.args.self.now in
     let b = p.log_blowup in
     let f = p.log_final_poly_len in
     let commits = g.M.Mmcs.commits p.mmcs in
@@ -370,42 +273,38 @@ returns-in_err-final_poly-clause-failure g c =
     let bivariate = c.first_layer-bivariate.result in
     let layers = g.M.Mmcs.matrices c.in_ok-layer.layer.kept in
     let fold = first_fold k b ms alpha bivariate in
-    let tall = top-known ms (λ h. b + f + 2 ≤ h) c.requires.tall.0 c.requires.tall.1 in
-    let hs1 : c.deref.result.now ≡ heights_of ms = c.deref.ensures.value
-    ∙ c.in_ok-heights.ensures (fields g) c.args.params.now.log_blowup in
-    let committed =
-    subst
-    (λ hs. AreCommitted commits (map (layer_of k b ms alpha) hs) layers
-    c.in_ok-layer.layer.commitment) hs1 c.in_ok-layer.ensures.committed in
+    let tall = top-tall c.args.self.now in
+    let committed = c.in_ok-layer.ensures.committed in
     let both =
-    folds-split k b ms alpha bivariate c.deref-2.result.now layers
+    folds-split k b ms alpha bivariate c.deref.result.now layers
     (map (λ w. w.items) c.in_ok-tallest.joining.items) c.in_ok-tallest.tallest.items
-    c.requires.tall.0
-    (c.deref-2.ensures.value ∙ c.in_ok-heights.ensures (fields g) c.args.params.now.log_blowup)
+    (tall-seen c.args.self.now).0
+    (c.deref.ensures.value ∙ c.in_ok-layer.ensures.heights)
     committed.rows c.in_ok-tallest.ensures.words in
-    let ends = c.in_ok-heights.ensures (fields g) c.args.params.now.log_blowup
-    ∙ heights-end ms c.requires.tall.0 in
-    let kept : take (c.len.result - 1) c.deref-3.result.now ≡ lower ms =
-    front-of c.deref-3.result.now c.len.result (lower ms) (top_of ms)
-    (c.deref-3.ensures.value ∙ ends) (c.len.ensures ∙ c.in_ok-heights.heights.ok.0
+    let ends = c.in_ok-layer.ensures.heights
+    ∙ heights-end ms (tall-seen c.args.self.now).0 in
+    let kept : take (c.len.result - 1) c.deref-2.result.now ≡ lower ms =
+    front-of c.deref-2.result.now c.len.result (lower ms) (top_of ms)
+    (c.deref-2.ensures.value ∙ ends) (c.len.ensures ∙ c.in_ok-layer.layer.heights.ok.0
     ∙ ap length ends) in
-    let are : map (λ w. w.items) c.deref-4.result.now ≡ map fold
-    (take (c.len.result - 1) c.deref-3.result.now) =
-    ap (map (λ w. w.items)) c.deref-4.ensures.value ∙ both.0 ∙ ap (map fold) (sym kept) in
+    let are : map (λ w. w.items) c.deref-3.result.now ≡ map fold
+    (take (c.len.result - 1) c.deref-2.result.now) =
+    ap (map (λ w. w.items)) c.deref-3.ensures.value ∙ both.0 ∙ ap (map fold) (sym kept) in
     let high = c.greatest_height-log_max_height.ensures
-    ∙ top-seen (fields g) c.args.params.now.log_blowup c.args.matrices.now in
-    let alike = words-alike k b ms alpha bivariate (take (c.len.result - 1) c.deref-3.result.now)
-    c.greatest_height-log_max_height.result c.in_ok-tallest.tallest.items c.requires.tall.0
+    ∙ top-is c.args.self.now in
+    let alike = words-alike k b ms alpha bivariate (take (c.len.result - 1) c.deref-2.result.now)
+    c.greatest_height-log_max_height.result c.in_ok-tallest.tallest.items (tall-seen
+    c.args.self.now).0
     (omega (arith, tall)) kept high both.1 in
     let count : c.greatest_height-log_max_height.result - 1 - (b + f) ≡ top_of ms - 1 - b - f =
     omega (arith, high) in
     let betas = c.in_ok-rounds.rounds.betas.items in
-    let is_last : c.deref-5.result.now ≡ round_word k b ms alpha bivariate betas
+    let is_last : c.deref-4.result.now ≡ round_word k b ms alpha bivariate betas
     (top_of ms - 1 - b - f) =
-    c.deref-5.ensures.value ∙ c.in_ok-rounds.ensures.word fold are ∙ alike betas _
+    c.deref-4.ensures.value ∙ c.in_ok-rounds.ensures.word fold are ∙ alike betas _
     ∙ ap (round_word k b ms alpha bivariate betas) count in
     handed_on c.from_residual-in_err-final_poly.result c.in_err-final_poly.field-0.0
-    (IsRunFailure (challenger g) commits k p c.args.matrices.now c.args.claims.now
+    (IsRunFailure c.args.self.now (run_of c.args.transcript.now) g.M.Mmcs.commits c.args.claims.now
     c.args.transcript.now) c.from_residual-in_err-final_poly.ensures.1
     (elim c.in_err-final_poly.ensures.failure [
       | inl refused ↦ inl refused
@@ -426,9 +325,9 @@ returns-in_err-final_poly-clause-failure g c =
 pub query_phase-requires-clause-next : goal.query_phase-requires-clause-next
 query_phase-requires-clause-next g c =
     let degree = g.EF.ExtensionField.DEGREE in
-    let b = c.args.params.now.log_blowup in
-    let f = c.args.params.now.log_final_poly_len in
-    let top = greatest (map (λ m. m.log_height) c.args.matrices.now) in
+    let b = c.args.self.now.params.now.log_blowup in
+    let f = c.args.self.now.params.now.log_final_poly_len in
+    let top = greatest (map (λ m. m.log_height) c.args.self.now.matrices.now) in
     let n = numbers c.args.transcript.now in
     let count : top - 1 - b - f ≡ c.greatest_height-log_max_height.result - 1 - (b + f) =
     omega (arith, c.greatest_height-log_max_height.ensures) in (
@@ -444,9 +343,9 @@ query_phase-requires-clause-next g c =
 pub returns-clause-due : goal.returns-clause-due
 returns-clause-due g c =
     let degree = g.EF.ExtensionField.DEGREE in
-    let b = c.args.params.now.log_blowup in
-    let f = c.args.params.now.log_final_poly_len in
-    let top = greatest (map (λ m. m.log_height) c.args.matrices.now) in
+    let b = c.args.self.now.params.now.log_blowup in
+    let f = c.args.self.now.params.now.log_final_poly_len in
+    let top = greatest (map (λ m. m.log_height) c.args.self.now.matrices.now) in
     let n = numbers c.args.transcript.now in
     let count : top - 1 - b - f ≡ c.greatest_height-log_max_height.result - 1 - (b + f) =
     omega (arith, c.greatest_height-log_max_height.ensures) in
@@ -460,9 +359,9 @@ returns-clause-due g c =
 
 pub returns-in_err-indices-clause-failure : goal.returns-in_err-indices-clause-failure
 returns-in_err-indices-clause-failure g c =
-    let k = fields g in
-    let p = c.args.params.now in
-    let ms = map (committed_of (fields g) c.args.params.now.log_blowup) c.args.matrices.now in
+    let k = fields_of c.args.self.now in
+    let p = c.args.self.now.params.now in
+    let ms = seen c.args.self.now in
     let b = p.log_blowup in
     let f = p.log_final_poly_len in
     let commits = g.M.Mmcs.commits p.mmcs in
@@ -470,39 +369,35 @@ returns-in_err-indices-clause-failure g c =
     let bivariate = c.first_layer-bivariate.result in
     let layers = g.M.Mmcs.matrices c.in_ok-layer.layer.kept in
     let fold = first_fold k b ms alpha bivariate in
-    let tall = top-known ms (λ h. b + f + 2 ≤ h) c.requires.tall.0 c.requires.tall.1 in
-    let hs1 : c.deref.result.now ≡ heights_of ms = c.deref.ensures.value
-    ∙ c.in_ok-heights.ensures (fields g) c.args.params.now.log_blowup in
-    let committed =
-    subst
-    (λ hs. AreCommitted commits (map (layer_of k b ms alpha) hs) layers
-    c.in_ok-layer.layer.commitment) hs1 c.in_ok-layer.ensures.committed in
+    let tall = top-tall c.args.self.now in
+    let committed = c.in_ok-layer.ensures.committed in
     let both =
-    folds-split k b ms alpha bivariate c.deref-2.result.now layers
+    folds-split k b ms alpha bivariate c.deref.result.now layers
     (map (λ w. w.items) c.in_ok-tallest.joining.items) c.in_ok-tallest.tallest.items
-    c.requires.tall.0
-    (c.deref-2.ensures.value ∙ c.in_ok-heights.ensures (fields g) c.args.params.now.log_blowup)
+    (tall-seen c.args.self.now).0
+    (c.deref.ensures.value ∙ c.in_ok-layer.ensures.heights)
     committed.rows c.in_ok-tallest.ensures.words in
-    let ends = c.in_ok-heights.ensures (fields g) c.args.params.now.log_blowup
-    ∙ heights-end ms c.requires.tall.0 in
-    let kept : take (c.len.result - 1) c.deref-3.result.now ≡ lower ms =
-    front-of c.deref-3.result.now c.len.result (lower ms) (top_of ms)
-    (c.deref-3.ensures.value ∙ ends) (c.len.ensures ∙ c.in_ok-heights.heights.ok.0
+    let ends = c.in_ok-layer.ensures.heights
+    ∙ heights-end ms (tall-seen c.args.self.now).0 in
+    let kept : take (c.len.result - 1) c.deref-2.result.now ≡ lower ms =
+    front-of c.deref-2.result.now c.len.result (lower ms) (top_of ms)
+    (c.deref-2.ensures.value ∙ ends) (c.len.ensures ∙ c.in_ok-layer.layer.heights.ok.0
     ∙ ap length ends) in
-    let are : map (λ w. w.items) c.deref-4.result.now ≡ map fold
-    (take (c.len.result - 1) c.deref-3.result.now) =
-    ap (map (λ w. w.items)) c.deref-4.ensures.value ∙ both.0 ∙ ap (map fold) (sym kept) in
+    let are : map (λ w. w.items) c.deref-3.result.now ≡ map fold
+    (take (c.len.result - 1) c.deref-2.result.now) =
+    ap (map (λ w. w.items)) c.deref-3.ensures.value ∙ both.0 ∙ ap (map fold) (sym kept) in
     let high = c.greatest_height-log_max_height.ensures
-    ∙ top-seen (fields g) c.args.params.now.log_blowup c.args.matrices.now in
-    let alike = words-alike k b ms alpha bivariate (take (c.len.result - 1) c.deref-3.result.now)
-    c.greatest_height-log_max_height.result c.in_ok-tallest.tallest.items c.requires.tall.0
+    ∙ top-is c.args.self.now in
+    let alike = words-alike k b ms alpha bivariate (take (c.len.result - 1) c.deref-2.result.now)
+    c.greatest_height-log_max_height.result c.in_ok-tallest.tallest.items (tall-seen
+    c.args.self.now).0
     (omega (arith, tall)) kept high both.1 in
     let count : c.greatest_height-log_max_height.result - 1 - (b + f) ≡ top_of ms - 1 - b - f =
     omega (arith, high) in
-    let r = challenger g in
+    let r = run_of c.args.transcript.now in
     let zero = g.F.Operations.ops.zero in
     let n = numbers c.args.transcript.now in
-    let s = g.C.ChallengerState.state c.args.transcript.now.challenger.now in
+    let s = state_of c.args.transcript.now in
     let claims = claims_of c.args.claims.now in
     let commitments = c.in_ok-rounds.rounds.commitments.items in
     let witnesses = c.in_ok-rounds.rounds.witnesses.items in
@@ -512,33 +407,31 @@ returns-in_err-indices-clause-failure g c =
     let all = taken claims (unwrap_or c.in_ok-alpha.batch zero) c.in_ok-layer.layer.commitment
     rounds c.in_ok-final_poly.final_poly.items zero in
     let same2 = c.first_layer-bivariate.ensures.same.shape ∙ c.batch_phase.ensures.same.shape in
-    let second : AtRounds r n all s (numbers c.first_layer-bivariate.new.self)
-    (g.C.ChallengerState.state c.first_layer-bivariate.new.self.challenger.now) =
+    let second : AtRounds r n all s (g.EF.ExtensionField.coefficients c.in_ok-alpha.alpha)
+    (g.EF.ExtensionField.coefficients c.first_layer-bivariate.result)
+    (numbers c.first_layer-bivariate.new.self) (state_of c.first_layer-bivariate.new.self) =
     record {
       same = same2;
-      batch = c.in_ok-alpha.ensures.passes;
-      state =
-          c.first_layer-bivariate.ensures.state
-          ∙ ap (after_element r.base) (at_layer r n all s _ c.in_ok-alpha.ensures.state);
+      after = state_of c.batch_phase.new.self;
+      batch = c.in_ok-alpha.ensures.played;
+      layer = c.first_layer-bivariate.ensures.played;
     } in
     let begins : Begins r commits k p ms n claims s all alpha bivariate = record {
       same = refl;
       found = c.in_ok-alpha.ensures.found;
-      batching = c.in_ok-alpha.ensures.challenge;
+      batching = batch_drawn r n all s _ _ _ _ second;
       first_layer = (layers, committed);
-      folding = c.first_layer-bivariate.ensures.challenge
-          ∙ ap (drawn_element r.base) (at_layer r n all s _ c.in_ok-alpha.ensures.state);
+      folding = layer_drawn r n all s _ _ _ _ second;
     } in
-    let third = at_query r n all s (numbers c.play_rounds.new.transcript) _ _ _ second
-    c.play_rounds.ensures.same.shape c.in_ok-rounds.ensures.played.passes
-    c.in_ok-rounds.ensures.played.state in
-    let is_last : c.deref-5.result.now ≡ word betas (top_of ms - 1 - b - f) =
-    c.deref-5.ensures.value ∙ c.in_ok-rounds.ensures.word fold are ∙ alike betas _
+    let third = at_query r n all s _ _ _ (numbers c.play_rounds.new.transcript) _ _ _ second
+    c.play_rounds.ensures.same.shape c.in_ok-rounds.ensures.played.played in
+    let is_last : c.deref-4.result.now ≡ word betas (top_of ms - 1 - b - f) =
+    c.deref-4.ensures.value ∙ c.in_ok-rounds.ensures.word fold are ∙ alike betas _
     ∙ ap (word betas) count in
     let played = rounds-moved r commits n (numbers c.first_layer-bivariate.new.self) _ _ word word
-    rounds betas same2 second.state (λ i. refl) (record {
+    rounds betas same2 (rounds_begin r n all s _ _ _ _ second) (λ i. refl) (record {
       found = c.in_ok-rounds.ensures.played.found;
-      drawn = c.in_ok-rounds.ensures.played.challenges;
+      drawn = (told r _ _ _ rounds _ c.in_ok-rounds.ensures.played.played).challenges;
       committed =
           words_committed commits g.M.Mmcs.matrices (word betas) c.in_ok-rounds.rounds.kept.items
           commitments witnesses
@@ -555,7 +448,7 @@ returns-in_err-indices-clause-failure g c =
       count,
     )) in
     handed_on c.from_residual-in_err-indices.result (prover_error c.in_err-indices.field-0.0)
-    (IsRunFailure r commits k p c.args.matrices.now c.args.claims.now c.args.transcript.now)
+    (IsRunFailure c.args.self.now r g.M.Mmcs.commits c.args.claims.now c.args.transcript.now)
     c.from_residual-in_err-indices.ensures.1
     (elim c.in_err-indices.ensures.failure [
       | inl refused ↦ inl (ap prover_error refused)
@@ -563,17 +456,17 @@ returns-in_err-indices-clause-failure g c =
           inr (inr (
             Query,
             ap prover_error none,
-            stuck-query r commits k p ms n claims s all alpha bivariate begins betas _ _ third
+            stuck-query r commits k p ms n claims s all alpha bivariate begins betas _ _ _ _ _ third
                 played long
                 (subst
                 (λ w. HasXValues k.field k.gen k.extension k.embed f (b + f) w
                 c.in_ok-final_poly.final_poly.items) is_last c.in_ok-final_poly.ensures.values)
                 (subst
                 (λ xs. NonePasses r.base
-                (after_final_poly r.base
-                (g.C.ChallengerState.state c.play_rounds.new.transcript.challenger.now) xs)
-                (numbers c.play_rounds.new.transcript).query_pow_bits) c.deref-6.ensures.value
-                (c.query_phase.ensures.none (c.in_err-indices.was ∙ ap Err none))),
+                (after_final_poly r.base (state_of c.play_rounds.new.transcript) xs)
+                (numbers c.play_rounds.new.transcript).query_pow_bits) c.deref-5.ensures.value
+                (λ w. missed_in Query _ _ _
+                (c.query_phase.ensures.none (c.in_err-indices.was ∙ ap Err none) w))),
           ))
     ])
 
@@ -607,10 +500,10 @@ returns-clause-easy_query g c = λ none.
 
 pub returns-clause-draws : goal.returns-clause-draws
 returns-clause-draws g c =
-    let r = challenger g in
+    let r = run_of c.args.transcript.now in
     let zero = g.F.Operations.ops.zero in
     let n = numbers c.args.transcript.now in
-    let s = g.C.ChallengerState.state c.args.transcript.now.challenger.now in
+    let s = state_of c.args.transcript.now in
     let claims = claims_of c.args.claims.now in
     let coefficients = g.EF.ExtensionField.coefficients in
     let commitment = c.in_ok-layer.layer.commitment in
@@ -620,40 +513,29 @@ returns-clause-draws g c =
     let all = taken claims (unwrap_or c.in_ok-alpha.batch zero) commitment rounds last
     (unwrap_or c.in_ok-indices.query zero) in
     let same2 = c.first_layer-bivariate.ensures.same.shape ∙ c.batch_phase.ensures.same.shape in
-    let second : AtRounds r n all s (numbers c.first_layer-bivariate.new.self)
-    (g.C.ChallengerState.state c.first_layer-bivariate.new.self.challenger.now) =
+    let second : AtRounds r n all s (g.EF.ExtensionField.coefficients c.in_ok-alpha.alpha)
+    (g.EF.ExtensionField.coefficients c.first_layer-bivariate.result)
+    (numbers c.first_layer-bivariate.new.self) (state_of c.first_layer-bivariate.new.self) =
     record {
       same = same2;
-      batch = c.in_ok-alpha.ensures.passes;
-      state =
-          c.first_layer-bivariate.ensures.state
-          ∙ ap (after_element r.base) (at_layer r n all s _ c.in_ok-alpha.ensures.state);
+      after = state_of c.batch_phase.new.self;
+      batch = c.in_ok-alpha.ensures.played;
+      layer = c.first_layer-bivariate.ensures.played;
     } in
     let played = c.in_ok-rounds.ensures.played in
-    let third = at_query r n all s (numbers c.play_rounds.new.transcript) _ _ _ second
-    c.play_rounds.ensures.same.shape played.passes played.state in
-    let now = g.C.ChallengerState.state c.play_rounds.new.transcript.challenger.now in
-    let m = numbers c.play_rounds.new.transcript in
-    let poly : c.deref-6.result.now ≡ last = c.deref-6.ensures.value in
+    let third = at_query r n all s _ _ _ (numbers c.play_rounds.new.transcript) _ _ _ second
+    c.play_rounds.ensures.same.shape played.played in
+    let now = c.play_rounds.new.transcript in
+    let poly : c.deref-5.result.now ≡ last = c.deref-5.ensures.value in
     let w = unwrap_or c.in_ok-indices.query zero in
     let drawn =
     drawn_parts (coefficients c.in_ok-alpha.alpha) (coefficients c.first_layer-bivariate.result)
     (map coefficients c.in_ok-rounds.rounds.betas.items) c.in_ok-indices.indices.items
-    (g.C.ChallengerState.state c.query_phase.new.self.challenger.now) in
+    (state_of c.query_phase.new.self) in
     let given : draw_seeded r n all s ≡ Ok drawn =
-    all_drawn r n all s _ _ third drawn.alpha drawn.bivariate drawn.betas drawn.indices
-    _ _ _ drawn.state c.in_ok-alpha.ensures.state second
-    (subst (λ xs. IsTrue (is_passed r.base (after_final_poly r.base now xs) m.query_pow_bits w))
-    poly c.in_ok-indices.ensures.passes)
-    c.in_ok-alpha.ensures.challenge c.first_layer-bivariate.ensures.challenge played.challenges
-    (c.in_ok-indices.ensures.indices
-    ∙ ap
-    (λ xs. drawn_indices r.base m
-    (after_pow r.base (after_final_poly r.base now xs) m.query_pow_bits w)) poly)
-    (c.in_ok-indices.ensures.state
-    ∙ ap
-    (λ xs. after_indices r.base m
-    (after_pow r.base (after_final_poly r.base now xs) m.query_pow_bits w)) poly) in
+    all_drawn r n all s _ _ _ _ _ third drawn.indices drawn.state
+    (subst (λ xs. query_from now xs w ≡ Ok (drawn.indices, drawn.state)) poly
+    c.in_ok-indices.ensures.played) in
     let zero-1 : c.unwrap_or.result ≡ unwrap_or c.in_ok-alpha.batch zero = c.unwrap_or.ensures
     ∙ ap (unwrap_or c.in_ok-alpha.batch) (c.ZERO.ensures ∙ g.met.F.Field.zero_law) in
     let zero-2 : c.unwrap_or-2.result ≡ w = c.unwrap_or-2.ensures
@@ -667,9 +549,9 @@ returns-clause-draws g c =
 
 pub returns-clause-words : goal.returns-clause-words
 returns-clause-words g c =
-    let k = fields g in
-    let p = c.args.params.now in
-    let ms = map (committed_of (fields g) c.args.params.now.log_blowup) c.args.matrices.now in
+    let k = fields_of c.args.self.now in
+    let p = c.args.self.now.params.now in
+    let ms = seen c.args.self.now in
     let b = p.log_blowup in
     let f = p.log_final_poly_len in
     let commits = g.M.Mmcs.commits p.mmcs in
@@ -677,32 +559,28 @@ returns-clause-words g c =
     let bivariate = c.first_layer-bivariate.result in
     let layers = g.M.Mmcs.matrices c.in_ok-layer.layer.kept in
     let fold = first_fold k b ms alpha bivariate in
-    let tall = top-known ms (λ h. b + f + 2 ≤ h) c.requires.tall.0 c.requires.tall.1 in
-    let hs1 : c.deref.result.now ≡ heights_of ms = c.deref.ensures.value
-    ∙ c.in_ok-heights.ensures (fields g) c.args.params.now.log_blowup in
-    let committed =
-    subst
-    (λ hs. AreCommitted commits (map (layer_of k b ms alpha) hs) layers
-    c.in_ok-layer.layer.commitment) hs1 c.in_ok-layer.ensures.committed in
+    let tall = top-tall c.args.self.now in
+    let committed = c.in_ok-layer.ensures.committed in
     let both =
-    folds-split k b ms alpha bivariate c.deref-2.result.now layers
+    folds-split k b ms alpha bivariate c.deref.result.now layers
     (map (λ w. w.items) c.in_ok-tallest.joining.items) c.in_ok-tallest.tallest.items
-    c.requires.tall.0
-    (c.deref-2.ensures.value ∙ c.in_ok-heights.ensures (fields g) c.args.params.now.log_blowup)
+    (tall-seen c.args.self.now).0
+    (c.deref.ensures.value ∙ c.in_ok-layer.ensures.heights)
     committed.rows c.in_ok-tallest.ensures.words in
-    let ends = c.in_ok-heights.ensures (fields g) c.args.params.now.log_blowup
-    ∙ heights-end ms c.requires.tall.0 in
-    let kept : take (c.len.result - 1) c.deref-3.result.now ≡ lower ms =
-    front-of c.deref-3.result.now c.len.result (lower ms) (top_of ms)
-    (c.deref-3.ensures.value ∙ ends) (c.len.ensures ∙ c.in_ok-heights.heights.ok.0
+    let ends = c.in_ok-layer.ensures.heights
+    ∙ heights-end ms (tall-seen c.args.self.now).0 in
+    let kept : take (c.len.result - 1) c.deref-2.result.now ≡ lower ms =
+    front-of c.deref-2.result.now c.len.result (lower ms) (top_of ms)
+    (c.deref-2.ensures.value ∙ ends) (c.len.ensures ∙ c.in_ok-layer.layer.heights.ok.0
     ∙ ap length ends) in
-    let are : map (λ w. w.items) c.deref-4.result.now ≡ map fold
-    (take (c.len.result - 1) c.deref-3.result.now) =
-    ap (map (λ w. w.items)) c.deref-4.ensures.value ∙ both.0 ∙ ap (map fold) (sym kept) in
+    let are : map (λ w. w.items) c.deref-3.result.now ≡ map fold
+    (take (c.len.result - 1) c.deref-2.result.now) =
+    ap (map (λ w. w.items)) c.deref-3.ensures.value ∙ both.0 ∙ ap (map fold) (sym kept) in
     let high = c.greatest_height-log_max_height.ensures
-    ∙ top-seen (fields g) c.args.params.now.log_blowup c.args.matrices.now in
-    let alike = words-alike k b ms alpha bivariate (take (c.len.result - 1) c.deref-3.result.now)
-    c.greatest_height-log_max_height.result c.in_ok-tallest.tallest.items c.requires.tall.0
+    ∙ top-is c.args.self.now in
+    let alike = words-alike k b ms alpha bivariate (take (c.len.result - 1) c.deref-2.result.now)
+    c.greatest_height-log_max_height.result c.in_ok-tallest.tallest.items (tall-seen
+    c.args.self.now).0
     (omega (arith, tall)) kept high both.1 in
     let count : c.greatest_height-log_max_height.result - 1 - (b + f) ≡ top_of ms - 1 - b - f =
     omega (arith, high) in
@@ -712,11 +590,12 @@ returns-clause-words g c =
     c.greatest_height-log_max_height.result - 1 - (b + f) =
     c.in_ok-rounds.ensures.commitments in
     record {
-      heights = c.in_ok-heights.ensures (fields g) c.args.params.now.log_blowup;
+      heights = c.in_ok-layer.ensures.heights;
       top = high;
-      lambdas = c.in_ok-layer.ensures.lambdas ∙ ap (map (lambda k alpha ms b)) hs1;
+      lambdas = c.in_ok-layer.ensures.lambdas;
       first_layer = committed;
-      shapes = subst (λ hs. HaveHeights hs layers) hs1 c.in_ok-layer.ensures.shapes;
+      shapes = subst (λ hs. HaveHeights hs layers) c.in_ok-layer.ensures.heights
+          c.in_ok-layer.ensures.shapes;
       count = many ∙ count;
       witnesses = c.in_ok-rounds.ensures.witnesses ∙ sym many;
       rounds = rounds-alike commits g.M.Mmcs.matrices _ word c.in_ok-rounds.rounds.kept.items
@@ -726,7 +605,7 @@ returns-clause-words g c =
           subst
           (λ w. HasXValues k.field k.gen k.extension k.embed f (b + f) w
           c.in_ok-final_poly.final_poly.items)
-          (c.deref-5.ensures.value ∙ c.in_ok-rounds.ensures.word fold are ∙ alike betas _
+          (c.deref-4.ensures.value ∙ c.in_ok-rounds.ensures.word fold are ∙ alike betas _
           ∙ ap word (sym many))
           c.in_ok-final_poly.ensures.values;
     }
@@ -757,9 +636,6 @@ query_phase-requires-clause-narrow g c =
 
 pub returns-in_err-alpha-clause-same : goal.returns-in_err-alpha-clause-same
 returns-in_err-alpha-clause-same g c = c.batch_phase.ensures.same
-
-pub returns-in_err-heights-clause-same : goal.returns-in_err-heights-clause-same
-returns-in_err-heights-clause-same g c = c.batch_phase.ensures.same
 
 pub returns-in_err-layer-clause-same : goal.returns-in_err-layer-clause-same
 returns-in_err-layer-clause-same g c = c.batch_phase.ensures.same
