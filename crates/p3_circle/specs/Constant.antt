@@ -12,8 +12,11 @@ use Rattle.circle_commit.specs.declared.params.FriParameters.{FriParameters}
 use Rattle.circle_relation.specs.Accepts.{Fields, Run, Authenticates, AreApart, HoldsWith}
 use Rattle.circle_relation.specs.Accepts.{InputsAuthenticate, FirstLayerAuthenticates}
 use Rattle.circle_relation.specs.Accepts.{RoundsAuthenticate, round_value, rounds, placed_queries}
-use Rattle.circle_relation.specs.RunOf.{run_of}
-use Rattle.circle_relation.specs.declared.run.OpenedRun.{OpenedRun}
+use Rattle.circle_relation.specs.RunOf.{run_with}
+use Rattle.circle_relation.specs.Statement.{Challenges}
+use Rattle.circle_relation.specs.declared.proof.CirclePcsProof.{CirclePcsProof}
+use Rattle.circle_commit.specs.declared.pcs.CommitmentOpening.{CommitmentOpening}
+use Rattle.circle_domain.specs.declared.domain.CircleDomain.{CircleDomain}
 use Rattle.circle_transcript.specs.Shape.{Shape, batch_steps, claimed_widths, first_layer_steps}
 use Rattle.circle_transcript.specs.Shape.{guarded_numbers_steps, layout, rounds_steps, text_of}
 use Rattle.circle_transcript.specs.ShapeOf.{shape_for, shape_of}
@@ -84,10 +87,12 @@ module _ {F E M Com InputCom InputProof WordProof : Type 0} (k : Fields F E)
     pub from : (c : E) → r.proof.final_poly ≡ c ∷ [] → HoldsWithConstant c
         → HoldsWith k params r inputs words
 
--- likewise for a run that was drawn; I and W are the schemes of the batches and of the codewords,
--- each with its commitments, data, proofs and errors
+-- likewise for claims and a proof, under any challenges; I and W are the schemes of the batches and
+-- of the codewords, each with its commitments, data, proofs and errors
 abbrev pub AreSameOfConstants : {F E I W IC ID IP IE WC WD WP WE : Type 0} {g : _} → Fields F E
-    → OpenedRun F E I W IC ID IP IE WC WD WP WE g → (I → Authenticates IC F IP)
-    → (W → Authenticates WC E WP) → Type 0
-AreSameOfConstants k o inputs words =
-    IsSameOfConstants k o.params.now (run_of o) (inputs o.mmcs.now) (words o.params.now.mmcs)
+    → FriParameters W → List (CommitmentOpening E IC (CircleDomain F g))
+    → CirclePcsProof F E I W F IC ID IP IE WC WD WP WE → Authenticates IC F IP
+    → Authenticates WC E WP → Type 0
+AreSameOfConstants {E = E} k params claims proof inputs words =
+    (drawn : Challenges E)
+    → IsSameOfConstants k params (run_with claims proof drawn) inputs words

@@ -145,10 +145,7 @@ where
         ⟦<C as RunChallenger<Val, EF, FriMmcs::Commitment>>⟧.run InputMmcs.authenticates
         FriMmcs.authenticates pcs.mmcs pcs.fri_params claims proof };
 
-    fn natural_domain_for_degree(&self, degree: usize) -> CircleDomain<Val>
-        requires { CanBeDegree Val.CIRCLE_TWO_ADICITY degree }
-        ensures { IsStandardOfSize Val.CIRCLE_TWO_ADICITY Val.generators degree result }
-    {
+    fn natural_domain_for_degree(&self, degree: usize) -> CircleDomain<Val> {
         self.natural_domain_for_degree(degree)
     }
 
@@ -204,15 +201,11 @@ where
         self.verify(alloc, claims, proof, challenger)
     }
 
-    fn is_memory(error: &VerifierError<InputMmcs::Error, FriMmcs::Error>) -> bool
-        ensures { result ≡ says_memory error.now }
-    {
+    fn is_memory(error: &VerifierError<InputMmcs::Error, FriMmcs::Error>) -> bool {
         matches!(error, FriError::Memory)
     }
 
-    fn is_prover_memory(error: &ProverError) -> bool
-        ensures { result ≡ says_prover_memory error.now }
-    {
+    fn is_prover_memory(error: &ProverError) -> bool {
         matches!(error, ProverError::Memory)
     }
 }
@@ -273,15 +266,11 @@ where
         Val.generators pcs.fri_params.log_blowup (InputMmcs.commits pcs.mmcs) batch ldes
         commitment (InputMmcs.matrices kept) };
 
-    fn log_max_trace_height(&self) -> usize
-        ensures { result ≡ Val.CIRCLE_TWO_ADICITY - 1 }
-    {
+    fn log_max_trace_height(&self) -> usize {
         self.log_max_trace_height()
     }
 
-    fn log_min_trace_height(&self) -> usize
-        ensures { result ≡ min (2 + self.now.fri_params.log_final_poly_len) (2 ^ 64 - 1) }
-    {
+    fn log_min_trace_height(&self) -> usize {
         self.log_min_trace_height()
     }
 
@@ -320,14 +309,7 @@ where
         prover_data: &InputMmcs::ProverData,
         idx: usize,
         domain: CircleDomain<Val>,
-    ) -> Result<RowMajorMatrix<Val>, ProverError>
-        requires { CanBeEvaluated Val.CIRCLE_TWO_ADICITY (InputMmcs.matrices prover_data.now) idx
-            domain }
-        ensures values { IfOk result (AreValuesOfMatrix Val.ops Val.generators
-            self.now.fri_params.log_blowup (InputMmcs.matrices prover_data.now) idx domain) }
-        ensures refused { IfErr result (IsFirstOf (target_tests_at Val.CIRCLE_TWO_ADICITY
-            self.now.fri_params (InputMmcs.matrices prover_data.now) idx (log_size domain))) }
-    {
+    ) -> Result<RowMajorMatrix<Val>, ProverError> {
         self.get_evaluations_on_domain(alloc, prover_data, idx, domain)
     }
 
@@ -337,13 +319,7 @@ where
         periodic_cols: &[Vec<Val>],
         trace_domain: CircleDomain<Val>,
         quotient_domain: CircleDomain<Val>,
-    ) -> Result<PeriodicLdeTable<Val>, PeriodicError>
-        requires { AreExtended Val.CIRCLE_TWO_ADICITY trace_domain quotient_domain }
-        ensures table { IfOk result (IsTableOn Val.ops Val.generators Val.CIRCLE_TWO_ADICITY
-            trace_domain quotient_domain (columns_of periodic_cols.now)) }
-        ensures refusal { IfErr result (IsRefusedOn trace_domain quotient_domain
-            (columns_of periodic_cols.now)) }
-    {
+    ) -> Result<PeriodicLdeTable<Val>, PeriodicError> {
         self.build_periodic_lde_table(alloc, periodic_cols, trace_domain, quotient_domain)
     }
 }

@@ -5,26 +5,36 @@ ghost use Rattle.std.specs.Prelude.{◌≡◌, IsTrue};
 ghost use Rattle.p3_circle.specs.Constant.{AreSameOfConstants, HasConstantText};
 ghost use Rattle.p3_circle.specs.Constant.{HaveConstantShape};
 
-use circle_commit::{FriParameters, Mmcs};
+use circle_commit::{CommitmentOpening, FriParameters, Mmcs};
+use circle_domain::CircleDomain;
 use circle_field::{ComplexExtendable, ExtensionField, Field};
 pub use circle_folding::{claim_binds, quotient_binds};
 use circle_plane::Point;
-use circle_relation::{OpenedRun, OverCircle};
+use circle_relation::{CirclePcsProof, OverCircle};
 use circle_transcript::CirclePcsShape;
 use std::hash::Hash;
 
-/// Where the final polynomial is a constant, the relation holds exactly where that of one final
-/// value does: each query's chain ends in that value. Takes no memory.
+/// Where the final polynomial is a constant, the relation holds of the claims and the proof, under
+/// any challenges, exactly where that of one final value does: each query's chain ends in that
+/// value. Takes no memory.
 pub fn constant_ends<
     Val: ComplexExtendable,
     EF: ExtensionField<Val>,
     InputMmcs: Mmcs<Val>,
     FriMmcs: Mmcs<EF>,
->(run: &OpenedRun<Val, EF, InputMmcs, FriMmcs>)
-    ensures { AreSameOfConstants ⟦<EF as OverCircle<Val>>⟧.fields run.now
-        InputMmcs.authenticates FriMmcs.authenticates }
+>(
+    mmcs: &InputMmcs,
+    params: &FriParameters<FriMmcs>,
+    claims: &[CommitmentOpening<EF, InputMmcs::Commitment, CircleDomain<Val>>],
+    proof: &CirclePcsProof<Val, EF, InputMmcs, FriMmcs, Val>,
+)
+    ensures { AreSameOfConstants ⟦<EF as OverCircle<Val>>⟧.fields params.now claims.now proof.now
+        (InputMmcs.authenticates mmcs.now) (FriMmcs.authenticates params.now.mmcs) }
 {
-    let _run = run;
+    let _mmcs = mmcs;
+    let _params = params;
+    let _claims = claims;
+    let _proof = proof;
 }
 
 /// Where the final polynomial is a constant, the shape of a run is the one that names no final

@@ -8,7 +8,7 @@
 //!   `complete`). Where a test before the challenger is seeded fails, `verify` returns the first
 //!   such refusal and leaves the challenger as it was (`first`). A later refusal has its reason too
 //!   (`reason`).
-//! - `verify_queries` returns Ok only where a run meets what the relation says of it once the
+//! - `OpenedRun::verify` returns Ok only where a run meets what the relation says of it once the
 //!   challenges are drawn (`opened`, `holds`), and each refusal has its reason (`refused`).
 //! - `CirclePcs::new` keeps its arguments.
 //! - `CirclePcs::commit` commits to what `get_quotient_ldes` returns: for each matrix the values of

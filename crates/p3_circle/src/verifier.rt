@@ -3,4 +3,4 @@
 pub use circle_verifier::verifier::{
     validate_claims, validate_parameters, validate_points, validate_proof_shape, validate_run,
 };
-pub use circle_verifier::{verify_drawn, verify_queries};
+pub use circle_verifier::{CheckedRun, OpenedRun, verify_drawn};

@@ -1,5 +1,7 @@
 //! Calls on elements, on domains and on values there.
 ghost use Rattle.std.specs.Prelude.{◌≡◌, ◌≤◌, ◌^◌, IsTrue, IfOk, All};
+ghost use Rattle.circle_commit.specs.RowMajorMatrix.{height_of};
+ghost use Rattle.circle_field.specs.Mersenne31.{operations};
 ghost use Rattle.circle_domain.specs.Clear.{IsClearOf};
 ghost use Rattle.circle_domain.specs.Domain.{IsGenuineDomain, log_size, points_of};
 
@@ -9,8 +11,7 @@ use circle_commit::{
     Matrix, PeriodicEvaluator, PeriodicLdeTable, PolynomialSpace, RowMajorMatrix, is_power_of_two,
 };
 use circle_field::{
-    ComplexExtendable, Cubic, ExtensionField, Field, Mersenne31, Operations,
-    batch_multiplicative_inverse,
+    ComplexExtendable, Cubic, ExtensionField, Field, Mersenne31, batch_multiplicative_inverse,
 };
 use p3_circle::{CircleDomain, CircleEvaluations, CirclePeriodicEvaluator, Point, circle_basis};
 use std::alloc::{AllocError, Global};
@@ -81,11 +82,10 @@ fn is_genuine<F: ComplexExtendable>(domain: CircleDomain<F>) -> bool
 
 // The column of this height, with a row for each point of a domain that is genuine.
 fn column_on(alloc: Global, domain: Domain, height: u64) -> Result<Rows>
-    ensures height { IfOk result (λ rows.
-        ⟦<Rows as Matrix<Mersenne31>>⟧.height rows ≡ 2 ^ log_size domain) }
+    ensures height { IfOk result (λ rows. height_of rows ≡ 2 ^ log_size domain) }
     ensures positive { IfOk result (λ _. 1 ≤ log_size domain) }
     ensures in_group { IfOk result (λ _. log_size domain ≤ 31) }
-    ensures genuine { IfOk result (λ _. IsGenuineDomain ⟦<Mersenne31 as Operations>⟧.ops domain) }
+    ensures genuine { IfOk result (λ _. IsGenuineDomain operations domain) }
 {
     let rows = column(alloc, height)?;
     if !is_genuine(domain) {

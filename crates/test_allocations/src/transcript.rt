@@ -55,7 +55,7 @@ fn begin(
     requires final_poly { shape.log_final_poly_len ≤ 63 }
 {
     stage.begin()?;
-    let begun = CircleProverTranscript::<Sha256Challenger, Mersenne31, Cubic>::new(
+    let begun = CircleProverTranscript::<Sha256Challenger, Mersenne31, Cubic, [u8; 32]>::new(
         alloc, challenger, shape,
     )?;
     begun.abort();

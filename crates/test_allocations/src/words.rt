@@ -1,5 +1,6 @@
 //! Calls on codewords.
 ghost use Rattle.std.specs.Prelude.{◌≡◌, ◌≤◌, ◌^◌, IfOk};
+ghost use Rattle.circle_commit.specs.RowMajorMatrix.{height_of, width_of};
 
 use crate::plane::cubic;
 use crate::told::{Stage, Told, digest, shown, told, unfit};
@@ -41,9 +42,8 @@ type Pairs = RowMajorMatrix<Cubic>;
 // Rows of two, as many as this power of two.
 fn pairs(alloc: Global, log_height: usize) -> Result<Pairs>
     ensures small { IfOk result (λ _. log_height ≤ 8) }
-    ensures width { IfOk result (λ rows. ⟦<Pairs as Matrix<Cubic>>⟧.width rows ≡ 2) }
-    ensures height { IfOk result (λ rows.
-        ⟦<Pairs as Matrix<Cubic>>⟧.height rows ≡ 2 ^ log_height) }
+    ensures width { IfOk result (λ rows. width_of rows ≡ 2) }
+    ensures height { IfOk result (λ rows. height_of rows ≡ 2 ^ log_height) }
 {
     let entries = word(alloc, 16)?;
     if entries.len() % 2 != 0 {

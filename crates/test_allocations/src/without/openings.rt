@@ -1,5 +1,4 @@
 //! The calls on requests to open and on proofs that allocate nothing, laws among them.
-use crate::plane::cubic;
 use crate::scheme::{after_commitment, claims, committed, opened, requests, scheme};
 use crate::told::{Stage, Told, unfit};
 use anyhow::Result;
@@ -10,7 +9,6 @@ use circle_completeness::openings_are_accepted;
 use circle_field::{ComplexExtendable, ExtensionField};
 use circle_presets::{Claim, Proof, Scheme};
 use circle_prover::validate_requests;
-use circle_relation::OpenedRun;
 use p3_circle::CirclePcs;
 use p3_circle::laws::constant_ends;
 use std::alloc::Global;
@@ -44,17 +42,7 @@ where
 
 // That of a proof whose final polynomial is a constant.
 fn of_constants(scheme: &Scheme, claims: &[Claim], proof: &Proof) {
-    constant_ends(&OpenedRun {
-        mmcs: &scheme.mmcs,
-        params: &scheme.fri_params,
-        claims,
-        proof,
-        log_max_height: 5,
-        alpha: cubic([1, 5, 9]),
-        bivariate: cubic([3, 1, 4]),
-        betas: &[cubic([2, 7, 1])],
-        indices: &[3, 1],
-    });
+    constant_ends(&scheme.mmcs, &scheme.fri_params, claims, proof);
 }
 
 /// Those calls.

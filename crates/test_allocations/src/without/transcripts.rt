@@ -31,9 +31,9 @@ const COMMITMENT: &str = "commitment";
 
 const FINAL: &str = "final";
 
-type Prover<'a> = CircleProverTranscript<'a, Sha256Challenger, Mersenne31, Cubic>;
+type Prover<'a> = CircleProverTranscript<'a, Sha256Challenger, Mersenne31, Cubic, [u8; 32]>;
 
-type Verifier<'a> = CircleVerifierTranscript<'a, Sha256Challenger, Mersenne31, Cubic>;
+type Verifier<'a> = CircleVerifierTranscript<'a, Sha256Challenger, Mersenne31, Cubic, [u8; 32]>;
 
 // The separator of a run with a proof of work of 8 bits.
 fn separator(alloc: Global) -> Result<DomainSeparator, AllocError>
