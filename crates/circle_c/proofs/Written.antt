@@ -12,16 +12,15 @@ use Rattle.circle_commands.specs.declared.failure.Failure.TheVariants.{Refused, 
 use Rattle.circle_commands.specs.declared.failure.Reason.{Reason as CommonReason}
 use Rattle.stark_commands.specs.Answer.{IsAnswer}
 use Rattle.stark_commands.specs.Failure.{IsRefusedFor, reason_line}
+use Rattle.stark_commands.specs.Forms.{proof_form}
 use Rattle.stark_commands.specs.Program.{Answer, answer_line, answer_status}
 use Rattle.stark_commands.specs.declared.failure.Failure.TheVariants.{Common, Refused as Reasoned}
 use Rattle.stark_commands.specs.declared.failure.Reason.{Reason}
-use Rattle.stark_commands.specs.declared.verify.Input.{Input as Claim}
 use Rattle.circle_c.specs.Challenger.{IsReasonFrom}
 use Rattle.circle_c.specs.Line.{IsWritten, WritesLine, WritesReason, WritesRefusal, WritesUnread}
 use Rattle.circle_c.specs.Line.{WritesUnreadable}
 use Rattle.circle_c.specs.Statement.{IsUnread, WritesUnreadText, failure_line, failure_of, name_of}
-use Rattle.circle_c.specs.Statement.{unread_line}
-use Rattle.circle_c.specs.declared.statement.Statement.{Statement}
+use Rattle.circle_c.specs.Statement.{statement_form, unread_line}
 use Rattle.circle_c.specs.declared.unread.Unread.{Unread}
 use Rattle.circle_c.specs.declared.unread.Unread.TheVariants.{OfStatement, OfProof}
 
@@ -90,16 +89,15 @@ module _ (old new : List ℕ) (needed : ℕ) where
     unread_written name Memory is written two = absurd (omega (arith, two))
 
   -- of two texts of which one isn't read, with the status 2 it is the line of why
-  pub texts_unread : {Proof : Type 0} (statement_form : Form Statement) (form : Form Proof)
-      (part : Claim → Proof) (statement proof : List ℕ) (unread : Unread) →
-      IsUnread statement_form form part statement proof unread →
+  pub texts_unread : (statement proof : List ℕ) (unread : Unread) →
+      IsUnread statement proof unread →
       IsWritten (failure_line (name_of unread) (failure_of unread)) old new needed →
       status_of (failure_of unread) ≡ 2 →
-      WritesUnreadText statement_form form part statement proof old new needed
-  texts_unread statement_form form part statement proof (OfStatement failure) is written two =
+      WritesUnreadText statement proof old new needed
+  texts_unread statement proof (OfStatement failure) is written two =
       inl (unread_written statement_form statement (codes "statement") failure is written two)
-  texts_unread statement_form form part statement proof (OfProof failure) is written two =
-      inr (unread_written form proof (codes "proof") failure is written two)
+  texts_unread statement proof (OfProof failure) is written two =
+      inr (unread_written proof_form proof (codes "proof") failure is written two)
 
   module _ {Given : Type 0} (form : Form Given) (text : List ℕ)
       (IsResult : Given → List ℕ → Type 0) (IsReason : Given → CommonReason → Type 0) where

@@ -9,6 +9,7 @@ use Rattle.circle_commands.specs.Text.{IsNoJson, IsUnfit, StandsFor}
 use Rattle.circle_commands.specs.declared.failure.Reason.{Reason}
 use Rattle.stark_commands.specs.Failure.{reason_line}
 use Rattle.stark_commands.specs.declared.failure.Reason.{Reason as StarkReason}
+use Rattle.circle_c.specs.Challenger.{IsResultFrom}
 
 -- the text stands at the start of the line where it fits, else the line is as it was; its length is
 -- reported
@@ -58,3 +59,10 @@ module _ {Given : Type 0} (form : Form Given) (text old new : List ℕ) (needed 
   -- the line of a text that is no JSON was written, or that of why it stands for no input
   abbrev pub WritesUnreadable : Type 0
   WritesUnreadable = WritesUnread unreadable_line
+
+-- the result is one from a caller's challenger in the one state, which is left in the other
+abbrev pub WritesResultFrom : {Given : Type 0} → Form Given →
+    (Given → List ℕ → List ℕ → List ℕ → Type 0) → List ℕ → List ℕ → List ℕ → ℕ → List ℕ →
+    List ℕ → Type 0
+WritesResultFrom form IsResult text old new needed start left =
+    WritesResult form text old new needed (IsResultFrom IsResult (needed ≤ length old) start left)

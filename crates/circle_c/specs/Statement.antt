@@ -1,19 +1,19 @@
 -- A verifier's own statement and a proof, each in a text of its own, and what a call writes of
 -- them.
-use Rattle.std.specs.Prelude.{ℕ, ◌⊎◌, ◌++◌, List, Vec, codes, ⊤}
-use Rattle.std.specs.declared.alloc.Global.{Global}
-use Rattle.circle_air.specs.declared.parts.AirParts.{AirParts}
-use Rattle.circle_commit.specs.declared.params.FriParameters.{FriParameters}
-use Rattle.circle_field.specs.declared.mersenne31.Mersenne31.{Mersenne31}
+use Rattle.std.specs.Prelude.{ℕ, ◌⊎◌, ◌++◌, List, codes}
+use Rattle.circle_json.specs.Claims.{parameters_form}
 use Rattle.circle_json.specs.Form.{Form, count_form}
 use Rattle.circle_json.specs.Named.{json_name}
+use Rattle.circle_json.specs.ObjectForm.{object_form}
 use Rattle.circle_json.specs.Objects.{Fields, field, none_left}
 use Rattle.circle_commands.specs.Answer.{IsNotRead}
 use Rattle.circle_commands.specs.Failure.{line_of}
+use Rattle.circle_commands.specs.Forms.{row_form}
 use Rattle.circle_commands.specs.Text.{IsTextOf}
 use Rattle.circle_commands.specs.declared.failure.Failure.{Failure}
 use Rattle.circle_commands.specs.declared.failure.Failure.TheVariants.{Json, Unfit}
 use Rattle.stark_commands.specs.Failure.{reason_line}
+use Rattle.stark_commands.specs.Forms.{air_form, proof_form}
 use Rattle.stark_commands.specs.declared.failure.Reason.{Reason}
 use Rattle.stark_commands.specs.declared.verify.Input.{Input}
 use Rattle.circle_c.specs.Line.{WritesLine, WritesReason, WritesUnread}
@@ -22,14 +22,16 @@ use Rattle.circle_c.specs.declared.unread.Unread.{Unread}
 use Rattle.circle_c.specs.declared.unread.Unread.TheVariants.{OfStatement, OfProof}
 
 -- the AIR, the logarithm of the number of rows, the parameters and the public values
-abbrev pub statement_fields : Form (AirParts Mersenne31) → Form (FriParameters ⊤) →
-    Form (Vec Mersenne31 Global) → Fields Statement
-statement_fields air params elements =
-    field (codes "air") (λ s. s.air) air
+abbrev pub statement_fields : Fields Statement
+statement_fields =
+    field (codes "air") (λ s. s.air) air_form
     (field (codes "log_n") (λ s. s.log_n) count_form
-    (field (codes "params") (λ s. s.params) params
-    (field (codes "public_values") (λ s. s.public_values) elements
+    (field (codes "params") (λ s. s.params) parameters_form
+    (field (codes "public_values") (λ s. s.public_values) row_form
     none_left)))
+
+abbrev pub statement_form : Form Statement
+statement_form = object_form statement_fields
 
 -- an input of the command `verify` without its proof
 abbrev pub statement_of : Input → Statement
@@ -60,13 +62,12 @@ abbrev pub failure_of : Unread → Failure
 failure_of (OfStatement failure) = failure
 failure_of (OfProof failure) = failure
 
--- of a text of a statement and one of a proof, which is this part of an input, by their forms
-module _ {Proof : Type 0} (statement_form : Form Statement) (proof_form : Form Proof)
-    (part : Input → Proof) (statement proof : List ℕ) where
+-- of a text of a statement and one of a proof
+module _ (statement proof : List ℕ) where
   -- they stand for the input's statement and for its proof
   pub record AreTextsOf (input : Input) : Type 0 where
     pub stated : IsTextOf statement_form statement (statement_of input)
-    pub proved : IsTextOf proof_form proof (part input)
+    pub proved : IsTextOf proof_form proof input.proof
 
   -- the text of the statement isn't read, or that of the proof
   abbrev pub IsUnread : Unread → Type 0

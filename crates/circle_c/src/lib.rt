@@ -59,10 +59,13 @@
 #![tactic(auto)]
 
 ghost use Rattle.std.specs.Prelude.{◌≡◌, ◌≤◌, length};
-ghost use Rattle.circle_c.specs.Challenger.{IsReasonFrom, IsResultFrom};
-ghost use Rattle.circle_c.specs.Line.{WritesRefusal, WritesResult, WritesUnreadable};
+ghost use Rattle.circle_commands.specs.Commands.{commit, prove, prove_from, shape, values, verify};
+ghost use Rattle.circle_c.specs.Challenger.{IsReasonFrom};
+ghost use Rattle.circle_c.specs.Line.{WritesRefusal, WritesResult, WritesResultFrom};
+ghost use Rattle.circle_c.specs.Line.{WritesUnreadable};
 ghost use Rattle.circle_c.specs.Params.{HasNumbers};
-ghost use Rattle.circle_c.specs.With.{IsReasonWith, IsResultWith};
+ghost use Rattle.circle_c.specs.With.{IsReasonWith, IsResultWith, IsUnverifiedWith};
+ghost use Rattle.circle_c.specs.With.{IsVerifiedWith};
 
 mod challenger;
 mod line;
@@ -77,7 +80,6 @@ pub use challenger::{
     CircleChallenger, circle_challenger_observe, circle_challenger_observe_element,
     circle_challenger_sample,
 };
-use circle_commands::command::{Command, CommandFrom};
 use circle_commands::failure::LINE_LEN;
 use circle_commands::{commit, prove, shape, values, verify};
 pub use params::CircleParams;
@@ -96,12 +98,12 @@ pub extern "C" fn circle_values(
     needed: &mut usize,
 ) -> u8
     ensures status { result ≤ 2 }
-    ensures rows { let c = ⟦<values::Input as Command>⟧ in result ≡ 0
-        → WritesResult c.form text.now line.old line.new needed.new c.is_result }
-    ensures refused { let c = ⟦<values::Input as Command>⟧ in result ≡ 1
-        → WritesRefusal c.form text.now line.old line.new needed.new c.is_reason }
-    ensures unreadable { let c = ⟦<values::Input as Command>⟧ in result ≡ 2
-        → WritesUnreadable c.form text.now line.old line.new needed.new }
+    ensures rows { result ≡ 0
+        → WritesResult values.form text.now line.old line.new needed.new values.is_result }
+    ensures refused { result ≡ 1
+        → WritesRefusal values.form text.now line.old line.new needed.new values.is_reason }
+    ensures unreadable { result ≡ 2
+        → WritesUnreadable values.form text.now line.old line.new needed.new }
     ensures short { ¬ (result ≡ 0) → needed.new ≤ LINE_LEN }
 {
     line::call::<values::Input>(alloc, text, line, needed)
@@ -116,12 +118,12 @@ pub extern "C" fn circle_shape(
     needed: &mut usize,
 ) -> u8
     ensures status { result ≤ 2 }
-    ensures shape { let c = ⟦<shape::Input as Command>⟧ in result ≡ 0
-        → WritesResult c.form text.now line.old line.new needed.new c.is_result }
-    ensures refused { let c = ⟦<shape::Input as Command>⟧ in result ≡ 1
-        → WritesRefusal c.form text.now line.old line.new needed.new c.is_reason }
-    ensures unreadable { let c = ⟦<shape::Input as Command>⟧ in result ≡ 2
-        → WritesUnreadable c.form text.now line.old line.new needed.new }
+    ensures shape { result ≡ 0
+        → WritesResult shape.form text.now line.old line.new needed.new shape.is_result }
+    ensures refused { result ≡ 1
+        → WritesRefusal shape.form text.now line.old line.new needed.new shape.is_reason }
+    ensures unreadable { result ≡ 2
+        → WritesUnreadable shape.form text.now line.old line.new needed.new }
     ensures short { ¬ (result ≡ 0) → needed.new ≤ LINE_LEN }
 {
     line::call::<shape::Input>(alloc, text, line, needed)
@@ -136,12 +138,12 @@ pub extern "C" fn circle_prove(
     needed: &mut usize,
 ) -> u8
     ensures status { result ≤ 2 }
-    ensures proved { let c = ⟦<prove::Input as Command>⟧ in result ≡ 0
-        → WritesResult c.form text.now line.old line.new needed.new c.is_result }
-    ensures refused { let c = ⟦<prove::Input as Command>⟧ in result ≡ 1
-        → WritesRefusal c.form text.now line.old line.new needed.new c.is_reason }
-    ensures unreadable { let c = ⟦<prove::Input as Command>⟧ in result ≡ 2
-        → WritesUnreadable c.form text.now line.old line.new needed.new }
+    ensures proved { result ≡ 0
+        → WritesResult prove.form text.now line.old line.new needed.new prove.is_result }
+    ensures refused { result ≡ 1
+        → WritesRefusal prove.form text.now line.old line.new needed.new prove.is_reason }
+    ensures unreadable { result ≡ 2
+        → WritesUnreadable prove.form text.now line.old line.new needed.new }
     ensures short { ¬ (result ≡ 0) → needed.new ≤ LINE_LEN }
 {
     line::call::<prove::Input>(alloc, text, line, needed)
@@ -156,12 +158,12 @@ pub extern "C" fn circle_verify(
     needed: &mut usize,
 ) -> u8
     ensures status { result ≤ 2 }
-    ensures accepted { let c = ⟦<verify::Input as Command>⟧ in result ≡ 0
-        → WritesResult c.form text.now line.old line.new needed.new c.is_result }
-    ensures refused { let c = ⟦<verify::Input as Command>⟧ in result ≡ 1
-        → WritesRefusal c.form text.now line.old line.new needed.new c.is_reason }
-    ensures unreadable { let c = ⟦<verify::Input as Command>⟧ in result ≡ 2
-        → WritesUnreadable c.form text.now line.old line.new needed.new }
+    ensures accepted { result ≡ 0
+        → WritesResult verify.form text.now line.old line.new needed.new verify.is_result }
+    ensures refused { result ≡ 1
+        → WritesRefusal verify.form text.now line.old line.new needed.new verify.is_reason }
+    ensures unreadable { result ≡ 2
+        → WritesUnreadable verify.form text.now line.old line.new needed.new }
     ensures short { needed.new ≤ LINE_LEN }
 {
     line::call::<verify::Input>(alloc, text, line, needed)
@@ -178,12 +180,12 @@ pub extern "C" fn circle_verify_with(
     needed: &mut usize,
 ) -> u8
     ensures status { result ≤ 2 }
-    ensures accepted { let c = ⟦<verify::Input as Command>⟧ in result ≡ 0 → WritesResult c.form
-        text.now line.old line.new needed.new (IsResultWith (HasNumbers params.now) c.is_result) }
-    ensures refused { let c = ⟦<verify::Input as Command>⟧ in result ≡ 1 → WritesRefusal c.form
-        text.now line.old line.new needed.new (IsReasonWith (HasNumbers params.now) c.is_reason) }
-    ensures unreadable { let c = ⟦<verify::Input as Command>⟧ in result ≡ 2
-        → WritesUnreadable c.form text.now line.old line.new needed.new }
+    ensures accepted { result ≡ 0 → WritesResult verify.form text.now line.old line.new
+        needed.new (IsResultWith (HasNumbers params.now) verify.is_result) }
+    ensures refused { result ≡ 1 → WritesRefusal verify.form text.now line.old line.new
+        needed.new (IsReasonWith (HasNumbers params.now) verify.is_reason) }
+    ensures unreadable { result ≡ 2
+        → WritesUnreadable verify.form text.now line.old line.new needed.new }
     ensures short { needed.new ≤ LINE_LEN }
 {
     with::call_with::<verify::Input>(alloc, text, params, line, needed)
@@ -198,12 +200,12 @@ pub extern "C" fn circle_commit(
     needed: &mut usize,
 ) -> u8
     ensures status { result ≤ 2 }
-    ensures commitments { let c = ⟦<commit::Input as Command>⟧ in result ≡ 0
-        → WritesResult c.form text.now line.old line.new needed.new c.is_result }
-    ensures refused { let c = ⟦<commit::Input as Command>⟧ in result ≡ 1
-        → WritesRefusal c.form text.now line.old line.new needed.new c.is_reason }
-    ensures unreadable { let c = ⟦<commit::Input as Command>⟧ in result ≡ 2
-        → WritesUnreadable c.form text.now line.old line.new needed.new }
+    ensures commitments { result ≡ 0
+        → WritesResult commit.form text.now line.old line.new needed.new commit.is_result }
+    ensures refused { result ≡ 1
+        → WritesRefusal commit.form text.now line.old line.new needed.new commit.is_reason }
+    ensures unreadable { result ≡ 2
+        → WritesUnreadable commit.form text.now line.old line.new needed.new }
     ensures short { ¬ (result ≡ 0) → needed.new ≤ LINE_LEN }
 {
     line::call::<commit::Input>(alloc, text, line, needed)
@@ -220,14 +222,12 @@ pub extern "C" fn circle_prove_from(
     needed: &mut usize,
 ) -> u8
     ensures status { result ≤ 2 }
-    ensures proved { let c = ⟦<prove::Input as CommandFrom>⟧ in result ≡ 0 → WritesResult
-        c.form text.now line.old line.new needed.new (IsResultFrom c.is_result_from
-        (needed.new ≤ length line.old) challenger.old.state challenger.new.state) }
-    ensures refused { let c = ⟦<prove::Input as CommandFrom>⟧ in result ≡ 1 → WritesRefusal
-        c.form text.now line.old line.new needed.new
-        (IsReasonFrom c.is_reason_from challenger.old.state) }
-    ensures unreadable { let c = ⟦<prove::Input as Command>⟧ in result ≡ 2
-        → WritesUnreadable c.form text.now line.old line.new needed.new }
+    ensures proved { result ≡ 0 → WritesResultFrom prove.form prove_from.is_result_from text.now
+        line.old line.new needed.new challenger.old.state challenger.new.state }
+    ensures refused { result ≡ 1 → WritesRefusal prove.form text.now line.old line.new needed.new
+        (IsReasonFrom prove_from.is_reason_from challenger.old.state) }
+    ensures unreadable { result ≡ 2
+        → WritesUnreadable prove.form text.now line.old line.new needed.new }
     ensures short { ¬ (result ≡ 0) → needed.new ≤ LINE_LEN }
     ensures state { ¬ ((result ≡ 0) × (needed.new ≤ length line.old))
         → challenger.new ≡ challenger.old }
@@ -247,14 +247,12 @@ pub extern "C" fn circle_verify_from(
     needed: &mut usize,
 ) -> u8
     ensures status { result ≤ 2 }
-    ensures accepted { let c = ⟦<verify::Input as CommandFrom>⟧ in result ≡ 0 → WritesResult
-        c.form text.now line.old line.new needed.new (IsResultWith (HasNumbers params.now)
-        (λ i. c.is_result_from i challenger.old.state challenger.new.state)) }
-    ensures refused { let c = ⟦<verify::Input as CommandFrom>⟧ in result ≡ 1 → WritesRefusal
-        c.form text.now line.old line.new needed.new (IsReasonWith (HasNumbers params.now)
-        (IsReasonFrom c.is_reason_from challenger.old.state)) }
-    ensures unreadable { let c = ⟦<verify::Input as Command>⟧ in result ≡ 2
-        → WritesUnreadable c.form text.now line.old line.new needed.new }
+    ensures accepted { result ≡ 0 → WritesResult verify.form text.now line.old line.new
+        needed.new (IsVerifiedWith params.now challenger.old.state challenger.new.state) }
+    ensures refused { result ≡ 1 → WritesRefusal verify.form text.now line.old line.new
+        needed.new (IsUnverifiedWith params.now challenger.old.state) }
+    ensures unreadable { result ≡ 2
+        → WritesUnreadable verify.form text.now line.old line.new needed.new }
     ensures short { needed.new ≤ LINE_LEN }
     ensures state { ¬ (result ≡ 0) → challenger.new ≡ challenger.old }
 {

@@ -1,8 +1,9 @@
 //! What is written to a caller's line.
 ghost use Rattle.std.specs.Prelude.{◌≡◌, ◌≤◌, ◌↔◌, IsErr, IsTrue, length};
 ghost use Rattle.circle_commands.specs.Program.{answer_line, answer_status};
-ghost use Rattle.circle_c.specs.Challenger.{IsReasonFrom, IsResultFrom};
-ghost use Rattle.circle_c.specs.Line.{IsWritten, WritesRefusal, WritesResult, WritesUnreadable};
+ghost use Rattle.circle_c.specs.Challenger.{IsReasonFrom};
+ghost use Rattle.circle_c.specs.Line.{IsWritten, WritesRefusal, WritesResult, WritesResultFrom};
+ghost use Rattle.circle_c.specs.Line.{WritesUnreadable};
 
 use crate::challenger::CircleChallenger;
 use circle_commands::Failure;
@@ -40,9 +41,8 @@ pub(crate) fn call_from<T: CommandFrom>(
     needed: &mut usize,
 ) -> u8
     ensures status { result ≤ 2 }
-    ensures result { result ≡ 0 → WritesResult T.form text.now line.old line.new needed.new
-        (IsResultFrom T.is_result_from (needed.new ≤ length line.old) challenger.old.state
-        challenger.new.state) }
+    ensures result { result ≡ 0 → WritesResultFrom T.form T.is_result_from text.now line.old
+        line.new needed.new challenger.old.state challenger.new.state }
     ensures refused { result ≡ 1 → WritesRefusal T.form text.now line.old line.new needed.new
         (IsReasonFrom T.is_reason_from challenger.old.state) }
     ensures unreadable { result ≡ 2

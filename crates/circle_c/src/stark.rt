@@ -1,15 +1,16 @@
 //! The exports over constraints on a trace.
 ghost use Rattle.std.specs.Prelude.{◌≡◌, ◌≤◌, length};
-ghost use Rattle.circle_c.specs.Challenger.{IsReasonFrom, IsResultFrom};
-ghost use Rattle.circle_c.specs.Line.{WritesResult, WritesStarkRefusal, WritesUnreadable};
+ghost use Rattle.stark_commands.specs.Commands.{check, prove, prove_from, verify, verify_from};
+ghost use Rattle.circle_c.specs.Challenger.{IsReasonFrom};
+ghost use Rattle.circle_c.specs.Line.{WritesResult, WritesResultFrom, WritesStarkRefusal};
+ghost use Rattle.circle_c.specs.Line.{WritesUnreadable};
 ghost use Rattle.circle_c.specs.Statement.{WritesRefusalOf, WritesUnreadText, WritesVerdict};
 
 use crate::challenger::CircleChallenger;
 use crate::stark_line::{call, call_from};
-use crate::statement::{Part, Statement, call_verify, call_verify_from};
+use crate::statement::{call_verify, call_verify_from};
 use stark_commands::failure::LINE_LEN;
-use stark_commands::verify::Proof;
-use stark_commands::{Command, CommandFrom, check, prove, verify};
+use stark_commands::{check, prove};
 use std::alloc::Global;
 
 /// Whether the rows of a trace satisfy an AIR, as the program's command `check` writes it.
@@ -21,12 +22,12 @@ pub extern "C" fn circle_stark_check(
     needed: &mut usize,
 ) -> u8
     ensures status { result ≤ 2 }
-    ensures satisfied { let c = ⟦<check::Input as Command>⟧ in result ≡ 0
-        → WritesResult c.form text.now line.old line.new needed.new c.is_result }
-    ensures refused { let c = ⟦<check::Input as Command>⟧ in result ≡ 1
-        → WritesStarkRefusal c.form text.now line.old line.new needed.new c.is_reason }
-    ensures unreadable { let c = ⟦<check::Input as Command>⟧ in result ≡ 2
-        → WritesUnreadable c.form text.now line.old line.new needed.new }
+    ensures satisfied { result ≡ 0
+        → WritesResult check.form text.now line.old line.new needed.new check.is_result }
+    ensures refused { result ≡ 1
+        → WritesStarkRefusal check.form text.now line.old line.new needed.new check.is_reason }
+    ensures unreadable { result ≡ 2
+        → WritesUnreadable check.form text.now line.old line.new needed.new }
     ensures short { needed.new ≤ LINE_LEN }
 {
     call::<check::Input>(alloc, text, line, needed)
@@ -41,12 +42,12 @@ pub extern "C" fn circle_stark_prove(
     needed: &mut usize,
 ) -> u8
     ensures status { result ≤ 2 }
-    ensures proved { let c = ⟦<prove::Input as Command>⟧ in result ≡ 0
-        → WritesResult c.form text.now line.old line.new needed.new c.is_result }
-    ensures refused { let c = ⟦<prove::Input as Command>⟧ in result ≡ 1
-        → WritesStarkRefusal c.form text.now line.old line.new needed.new c.is_reason }
-    ensures unreadable { let c = ⟦<prove::Input as Command>⟧ in result ≡ 2
-        → WritesUnreadable c.form text.now line.old line.new needed.new }
+    ensures proved { result ≡ 0
+        → WritesResult prove.form text.now line.old line.new needed.new prove.is_result }
+    ensures refused { result ≡ 1
+        → WritesStarkRefusal prove.form text.now line.old line.new needed.new prove.is_reason }
+    ensures unreadable { result ≡ 2
+        → WritesUnreadable prove.form text.now line.old line.new needed.new }
     ensures short { ¬ (result ≡ 0) → needed.new ≤ LINE_LEN }
 {
     call::<prove::Input>(alloc, text, line, needed)
@@ -63,14 +64,12 @@ pub extern "C" fn circle_stark_prove_from(
     needed: &mut usize,
 ) -> u8
     ensures status { result ≤ 2 }
-    ensures proved { let c = ⟦<prove::Input as CommandFrom>⟧ in result ≡ 0 → WritesResult
-        c.form text.now line.old line.new needed.new (IsResultFrom c.is_result_from
-        (needed.new ≤ length line.old) challenger.old.state challenger.new.state) }
-    ensures refused { let c = ⟦<prove::Input as CommandFrom>⟧ in result ≡ 1 → WritesStarkRefusal
-        c.form text.now line.old line.new needed.new
-        (IsReasonFrom c.is_reason_from challenger.old.state) }
-    ensures unreadable { let c = ⟦<prove::Input as Command>⟧ in result ≡ 2
-        → WritesUnreadable c.form text.now line.old line.new needed.new }
+    ensures proved { result ≡ 0 → WritesResultFrom prove.form prove_from.is_result_from text.now
+        line.old line.new needed.new challenger.old.state challenger.new.state }
+    ensures refused { result ≡ 1 → WritesStarkRefusal prove.form text.now line.old line.new
+        needed.new (IsReasonFrom prove_from.is_reason_from challenger.old.state) }
+    ensures unreadable { result ≡ 2
+        → WritesUnreadable prove.form text.now line.old line.new needed.new }
     ensures short { ¬ (result ≡ 0) → needed.new ≤ LINE_LEN }
     ensures state { ¬ ((result ≡ 0) × (needed.new ≤ length line.old))
         → challenger.new ≡ challenger.old }
@@ -89,15 +88,12 @@ pub extern "C" fn circle_stark_verify(
     needed: &mut usize,
 ) -> u8
     ensures status { result ≤ 2 }
-    ensures accepted { let c = ⟦<verify::Input as Command>⟧ in let s = ⟦<Statement as Part>⟧ in
-        let p = ⟦<Proof as Part>⟧ in result ≡ 0 → WritesVerdict s.form p.form (λ i. i.proof)
-        statement.now proof.now line.old line.new needed.new c.is_result }
-    ensures refused { let c = ⟦<verify::Input as Command>⟧ in let s = ⟦<Statement as Part>⟧ in
-        let p = ⟦<Proof as Part>⟧ in result ≡ 1 → WritesRefusalOf s.form p.form (λ i. i.proof)
-        statement.now proof.now line.old line.new needed.new c.is_reason }
-    ensures unreadable { let s = ⟦<Statement as Part>⟧ in let p = ⟦<Proof as Part>⟧ in result ≡ 2
-        → WritesUnreadText s.form p.form (λ i. i.proof) statement.now proof.now line.old line.new
-        needed.new }
+    ensures accepted { result ≡ 0 → WritesVerdict statement.now proof.now line.old line.new
+        needed.new verify.is_result }
+    ensures refused { result ≡ 1 → WritesRefusalOf statement.now proof.now line.old line.new
+        needed.new verify.is_reason }
+    ensures unreadable { result ≡ 2
+        → WritesUnreadText statement.now proof.now line.old line.new needed.new }
     ensures short { ¬ (result ≡ 0) → needed.new ≤ LINE_LEN }
 {
     call_verify(alloc, statement, proof, line, needed)
@@ -115,17 +111,12 @@ pub extern "C" fn circle_stark_verify_from(
     needed: &mut usize,
 ) -> u8
     ensures status { result ≤ 2 }
-    ensures accepted { let c = ⟦<verify::Input as CommandFrom>⟧ in let s = ⟦<Statement as Part>⟧ in
-        let p = ⟦<Proof as Part>⟧ in result ≡ 0 → WritesVerdict s.form p.form (λ i. i.proof)
-        statement.now proof.now line.old line.new needed.new
-        (λ i. c.is_result_from i challenger.old.state challenger.new.state) }
-    ensures refused { let c = ⟦<verify::Input as CommandFrom>⟧ in let s = ⟦<Statement as Part>⟧ in
-        let p = ⟦<Proof as Part>⟧ in result ≡ 1 → WritesRefusalOf s.form p.form (λ i. i.proof)
-        statement.now proof.now line.old line.new needed.new
-        (IsReasonFrom c.is_reason_from challenger.old.state) }
-    ensures unreadable { let s = ⟦<Statement as Part>⟧ in let p = ⟦<Proof as Part>⟧ in result ≡ 2
-        → WritesUnreadText s.form p.form (λ i. i.proof) statement.now proof.now line.old line.new
-        needed.new }
+    ensures accepted { result ≡ 0 → WritesVerdict statement.now proof.now line.old line.new
+        needed.new (λ i. verify_from.is_result_from i challenger.old.state challenger.new.state) }
+    ensures refused { result ≡ 1 → WritesRefusalOf statement.now proof.now line.old line.new
+        needed.new (IsReasonFrom verify_from.is_reason_from challenger.old.state) }
+    ensures unreadable { result ≡ 2
+        → WritesUnreadText statement.now proof.now line.old line.new needed.new }
     ensures short { ¬ (result ≡ 0) → needed.new ≤ LINE_LEN }
     ensures state { ¬ (result ≡ 0) → challenger.new ≡ challenger.old }
 {

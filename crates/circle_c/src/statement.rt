@@ -4,6 +4,7 @@ ghost use Rattle.serde_json.specs.View.{view};
 ghost use Rattle.circle_json.specs.Form.{Form};
 ghost use Rattle.circle_commands.specs.Answer.{IsNotRead};
 ghost use Rattle.circle_commands.specs.Text.{IsTextOf};
+ghost use Rattle.stark_commands.specs.Commands.{verify, verify_from};
 ghost use Rattle.circle_c.specs.Challenger.{IsReasonFrom};
 ghost use Rattle.circle_c.specs.Statement.{AreTextsOf, IsUnread, WritesRefusalOf};
 ghost use Rattle.circle_c.specs.Statement.{WritesUnreadText, WritesVerdict, statement_of};
@@ -67,11 +68,9 @@ pub(crate) trait Part: Sized {
 
 /// An object of the parts, each under its name.
 impl Part for Statement {
-    ghost use Rattle.circle_json.specs.ObjectForm.{object_form};
-    ghost use Rattle.circle_c.specs.Statement.{statement_fields};
+    ghost use Rattle.circle_c.specs.Statement.{statement_form};
 
-    ghost form = { object_form (statement_fields ⟦<AirParts<Val> as JsonForm>⟧.form
-        ⟦<FriParameters<()> as JsonForm>⟧.form ⟦<Vec<Val> as JsonForm>⟧.form) };
+    ghost form = { statement_form };
 
     fn read(alloc: Global, value: &Value) -> Result<Statement, JsonError> {
         has_keys(value, &["air", "log_n", "params", "public_values"])?;
@@ -85,7 +84,9 @@ impl Part for Statement {
 }
 
 impl Part for Proof {
-    ghost form = { ⟦<Proof as JsonForm>⟧.form };
+    ghost use Rattle.stark_commands.specs.Forms.{proof_form};
+
+    ghost form = { proof_form };
 
     fn read(alloc: Global, value: &Value) -> Result<Proof, JsonError> {
         <Proof as JsonForm>::from_json(alloc, value)
@@ -107,10 +108,8 @@ fn read<T: Part>(alloc: Global, text: &[u8]) -> Result<T, Failure>
 // The input whose statement one text stands for, and whose proof the other does. The statement is
 // read first.
 fn read_input(alloc: Global, statement: &[u8], proof: &[u8]) -> Result<Input, Unread>
-    ensures reads { let s = ⟦<Statement as Part>⟧ in let p = ⟦<Proof as Part>⟧ in IfOk result
-        (AreTextsOf s.form p.form (λ i. i.proof) statement.now proof.now) }
-    ensures refuses { let s = ⟦<Statement as Part>⟧ in let p = ⟦<Proof as Part>⟧ in IfErr result
-        (IsUnread s.form p.form (λ i. i.proof) statement.now proof.now) }
+    ensures reads { IfOk result (AreTextsOf statement.now proof.now) }
+    ensures refuses { IfErr result (IsUnread statement.now proof.now) }
 {
     let stated = match read::<Statement>(alloc, statement) {
         Ok(stated) => stated,
@@ -132,15 +131,12 @@ pub(crate) fn call_verify(
     needed: &mut usize,
 ) -> u8
     ensures status { result ≤ 2 }
-    ensures accepted { let c = ⟦<Input as Command>⟧ in let s = ⟦<Statement as Part>⟧ in let p =
-        ⟦<Proof as Part>⟧ in result ≡ 0 → WritesVerdict s.form p.form (λ i. i.proof) statement.now
-        proof.now line.old line.new needed.new c.is_result }
-    ensures refused { let c = ⟦<Input as Command>⟧ in let s = ⟦<Statement as Part>⟧ in let p =
-        ⟦<Proof as Part>⟧ in result ≡ 1 → WritesRefusalOf s.form p.form (λ i. i.proof) statement.now
-        proof.now line.old line.new needed.new c.is_reason }
-    ensures unreadable { let s = ⟦<Statement as Part>⟧ in let p = ⟦<Proof as Part>⟧ in result ≡ 2
-        → WritesUnreadText s.form p.form (λ i. i.proof) statement.now proof.now line.old line.new
-        needed.new }
+    ensures accepted { result ≡ 0 → WritesVerdict statement.now proof.now line.old line.new
+        needed.new verify.is_result }
+    ensures refused { result ≡ 1 → WritesRefusalOf statement.now proof.now line.old line.new
+        needed.new verify.is_reason }
+    ensures unreadable { result ≡ 2
+        → WritesUnreadText statement.now proof.now line.old line.new needed.new }
     ensures short { ¬ (result ≡ 0) → needed.new ≤ LINE_LEN }
 {
     match read_input(alloc, statement, proof) {
@@ -160,17 +156,12 @@ pub(crate) fn call_verify_from(
     needed: &mut usize,
 ) -> u8
     ensures status { result ≤ 2 }
-    ensures accepted { let c = ⟦<Input as CommandFrom>⟧ in let s = ⟦<Statement as Part>⟧ in let p =
-        ⟦<Proof as Part>⟧ in result ≡ 0 → WritesVerdict s.form p.form (λ i. i.proof) statement.now
-        proof.now line.old line.new needed.new
-        (λ i. c.is_result_from i challenger.old.state challenger.new.state) }
-    ensures refused { let c = ⟦<Input as CommandFrom>⟧ in let s = ⟦<Statement as Part>⟧ in let p =
-        ⟦<Proof as Part>⟧ in result ≡ 1 → WritesRefusalOf s.form p.form (λ i. i.proof) statement.now
-        proof.now line.old line.new needed.new
-        (IsReasonFrom c.is_reason_from challenger.old.state) }
-    ensures unreadable { let s = ⟦<Statement as Part>⟧ in let p = ⟦<Proof as Part>⟧ in result ≡ 2
-        → WritesUnreadText s.form p.form (λ i. i.proof) statement.now proof.now line.old line.new
-        needed.new }
+    ensures accepted { result ≡ 0 → WritesVerdict statement.now proof.now line.old line.new
+        needed.new (λ i. verify_from.is_result_from i challenger.old.state challenger.new.state) }
+    ensures refused { result ≡ 1 → WritesRefusalOf statement.now proof.now line.old line.new
+        needed.new (IsReasonFrom verify_from.is_reason_from challenger.old.state) }
+    ensures unreadable { result ≡ 2
+        → WritesUnreadText statement.now proof.now line.old line.new needed.new }
     ensures short { ¬ (result ≡ 0) → needed.new ≤ LINE_LEN }
     ensures state { ¬ (result ≡ 0) → challenger.new ≡ challenger.old }
 {

@@ -3,20 +3,23 @@ use Rattle.std.specs.Prelude.{◌≡◌, ℕ, ◌+◌, ◌-◌, ◌^◌, ◌<◌
 use Rattle.std.specs.Prelude.{zip, All, Vec}
 use Rattle.std.specs.List.{AllByRecursion, AllZip}
 use Rattle.std.specs.declared.alloc.Global.{Global}
-use Rattle.std.proofs.Common.{refl, sym, ◌∙◌, ap, subst, arith}
+use Rattle.std.proofs.Common.{refl, sym, ◌∙◌, ap, subst, arith, lit≤}
 use Rattle.std.proofs.lemmas.List.{length-map}
 use Rattle.std.proofs.lemmas.List.Elements.{All-from_recursion, recursion_from_All}
 use Rattle.std.proofs.lemmas.Slice.Zip.{AllZip-long}
-use Rattle.circle_challenger.specs.declared.sha256.Sha256Challenger.{Sha256Challenger}
 use Rattle.circle_completeness.specs.Claimed.{AreClaimed, IsClaimed}
 use Rattle.circle_completeness.specs.Honest.{IsOfLowDegree}
 use Rattle.circle_completeness.proofs.Accepted.{accepts-openings}
 use Rattle.circle_completeness.proofs.ReadRows.{low-read}
 use Rattle.circle_domain.proofs.Powers.{pow_injective}
 use Rattle.circle_domain.specs.Values.{values_at}
-use Rattle.circle_field.specs.Circle.{AreGenerators, Coordinates}
-use Rattle.circle_field.specs.Field.{FieldLaws, FieldOps, IsEmbedding}
+use Rattle.circle_challenger.specs.Sponge.{number-below}
+use Rattle.circle_field.specs.Circle.{Coordinates}
+use Rattle.circle_field.specs.CubicOperations.{is_embedding, laws}
+use Rattle.circle_field.specs.Field.{FieldOps}
 use Rattle.circle_field.specs.Mersenne31.{operations, generators}
+use Rattle.circle_field.specs.Mersenne31Circle.{are_generators}
+use Rattle.circle_field.specs.Mersenne31Laws.{laws as base-laws}
 use Rattle.circle_field.specs.declared.cubic.Cubic.{Cubic}
 use Rattle.circle_field.specs.declared.mersenne31.Mersenne31.{Mersenne31}
 use Rattle.circle_commit.specs.DotProduct.{pairwise}
@@ -33,13 +36,13 @@ use Rattle.circle_prover.specs.Opening.{IsOpening}
 use Rattle.circle_codewords.specs.Requests.{AreAnswers, AreFit, AreRequests, AreValuesOf, IsFit}
 use Rattle.circle_codewords.specs.Requests.{IsOpenable, batch_committed, claimed}
 use Rattle.circle_codewords.specs.Requests.{committed as committed_at, lists_of, log_of}
-use Rattle.circle_prover.specs.Schemes.{Schemes}
 use Rattle.circle_codewords.proofs.Logs.{log_of-power}
 use Rattle.circle_relation.specs.Accepts.{AcceptsFrom, Fields}
 use Rattle.circle_relation.specs.RunOf.{proof_of}
 use Rattle.circle_relation.specs.Statement.{BatchClaim, MatrixClaim, all_matrices}
 use Rattle.circle_codewords.specs.Ratios.{points_of_height}
 use Rattle.circle_codewords.specs.Words.{claim_of}
+use Rattle.circle_commands.specs.Chosen.{preset}
 use Rattle.circle_commands.specs.Proved.{AreCommitted, AreOpened, HavePoints, IsCommitted}
 use Rattle.circle_commands.specs.Proved.{IsExtended, IsRequested, batch_claimed, commitments_of}
 use Rattle.circle_commands.specs.Proved.{matrix_claimed, points_of}
@@ -51,6 +54,12 @@ use Rattle.circle_commands.specs.declared.prove.Input.{Input}
 use Rattle.circle_commands.specs.declared.prove.Trace.{Trace}
 use Rattle.circle_commands.specs.declared.verify.Input.{Input as Claims}
 use Rattle.circle_commands.proofs.Proving.{log_fits}
+
+abbrev kept : preset.Kept → List (RowMajorMatrix Mersenne31)
+kept = preset.schemes.kept
+
+abbrev Commits : ShaMmcs Mersenne31 → List (RowMajorMatrix Mersenne31) → List ℕ → Type 0
+Commits = preset.schemes.Commits
 
 -- the claims have the commitments of what was committed to
 same-commitments : (cs : List Committed) (vs : Openings Cubic)
@@ -162,33 +171,30 @@ module _ (k : Fields Mersenne31 Cubic) (blowup : ℕ) where
     )
 
     -- so is all that is requested of batches that were committed to
-    all-low : {D : Type 0} (kept : D → List (RowMajorMatrix Mersenne31))
-        (Commits : List (RowMajorMatrix Mersenne31) → List ℕ → Type 0)
-        (bs : List (Vec Trace Global)) (cs : List Committed) (rs : List (OpeningRequest D Cubic)) →
-        AreCommitted Commits blowup bs cs → AllZip (IsRequested kept) cs rs →
-        AllByRecursion (IsFit kept k blowup k.two_adicity) rs →
+    all-low : (mmcs : ShaMmcs Mersenne31) (bs : List (Vec Trace Global)) (cs : List Committed)
+        (rs : List (OpeningRequest preset.Kept Cubic)) → AreCommitted mmcs blowup bs cs →
+        AllZip IsRequested cs rs → AllByRecursion (IsFit kept k blowup k.two_adicity) rs →
         AllByRecursion (λ r. All (IsOfLowDegree k blowup) (kept r.prover_data.now)) rs
-    all-low kept Commits bs cs [] committed asked fit = tt
-    all-low kept Commits bs [] (r ∷ rs) committed asked fit = absurd asked
-    all-low kept Commits [] (c ∷ cs) (r ∷ rs) committed asked fit = absurd committed
-    all-low kept Commits (b ∷ bs) (c ∷ cs) (r ∷ rs) committed asked fit =
+    all-low mmcs bs cs [] committed asked fit = tt
+    all-low mmcs bs [] (r ∷ rs) committed asked fit = absurd asked
+    all-low mmcs [] (c ∷ cs) (r ∷ rs) committed asked fit = absurd committed
+    all-low mmcs (b ∷ bs) (c ∷ cs) (r ∷ rs) committed asked fit =
         let extended =
         subst (AllZip (λ (t : Trace) made. IsExtended blowup (lists t.rows.items) made) b.items)
         (sym asked.0.matrices) committed.0.extended in (
           All-from_recursion (IsOfLowDegree k blowup) (kept r.prover_data.now)
               (batch-low b.items (kept r.prover_data.now) (lists_of r.points.items) extended fit.0),
-          all-low kept Commits bs cs rs committed.1 asked.1 fit.1,
+          all-low mmcs bs cs rs committed.1 asked.1 fit.1,
         )
 
-  module _ {D : Type 0} (kept : D → List (RowMajorMatrix Mersenne31))
-      (Commits : List (RowMajorMatrix Mersenne31) → List ℕ → Type 0) where
+  module _ (mmcs : ShaMmcs Mersenne31) where
     -- so of all batches
     all-claimed : {M : Type 0} (p : FriParameters M) → blowup ≡ p.log_blowup →
-        (bs : List (Vec Trace Global)) (cs : List Committed) (rs : List (OpeningRequest D Cubic))
-        (vs : Openings Cubic) → AreCommitted Commits blowup bs cs →
-        AllZip (IsRequested kept) cs rs →
+        (bs : List (Vec Trace Global)) (cs : List Committed)
+        (rs : List (OpeningRequest preset.Kept Cubic)) (vs : Openings Cubic) →
+        AreCommitted mmcs blowup bs cs → AllZip IsRequested cs rs →
         AllByRecursion (IsFit kept k blowup k.two_adicity) rs → length vs ≡ length cs →
-        AreClaimed k p kept Commits rs vs (pairwise batch_claimed cs vs)
+        AreClaimed k p kept (Commits mmcs) rs vs (pairwise batch_claimed cs vs)
     all-claimed p same [] [] [] [] committed asked fit long = tt
     all-claimed p same [] [] [] (v ∷ vs) committed asked fit long = absurd (omega (arith, long))
     all-claimed p same [] [] (r ∷ rs) vs committed asked fit long = absurd asked
@@ -198,8 +204,8 @@ module _ (k : Fields Mersenne31 Cubic) (blowup : ℕ) where
     all-claimed p same (b ∷ bs) (c ∷ cs) (r ∷ rs) [] committed asked fit long =
         absurd (omega (arith, long))
     all-claimed p same (b ∷ bs) (c ∷ cs) (r ∷ rs) (v ∷ vs) committed asked fit long =
-        let is : IsCommitted Commits blowup b.items c = committed.0 in
-        let wanted : IsRequested kept c r = asked.0 in
+        let is : IsCommitted mmcs blowup b.items c = committed.0 in
+        let wanted : IsRequested c r = asked.0 in
         let traces = c.traces.now in
         let openable : AllZip (IsOpenable k k.two_adicity blowup) (matrices_of c.kept)
         (points_of traces) =
@@ -214,8 +220,9 @@ module _ (k : Fields Mersenne31 Cubic) (blowup : ℕ) where
         subst
         (λ ts. AllZip (λ t made. IsExtended blowup (lists t.rows.items) made) ts
         (matrices_of c.kept)) (sym is.given) is.extended in
-        let first : IsClaimed k p kept Commits r v (batch_claimed c v) = record {
-          committed = subst (λ ms. Commits ms c.commitment) (sym wanted.matrices) is.commitment;
+        let first : IsClaimed k p kept (Commits mmcs) r v (batch_claimed c v) = record {
+          committed =
+              subst (λ ms. Commits mmcs ms c.commitment) (sym wanted.matrices) is.commitment;
           matrices =
               subst (λ n. pairwise matrix_claimed traces v
               ≡ map (claimed n)
@@ -230,18 +237,18 @@ module _ (k : Fields Mersenne31 Cubic) (blowup : ℕ) where
         (first, all-claimed p same bs cs rs vs committed.1 asked.1 fit.1 (omega (arith, long)))
 
     all-pointed : (bs : List (Vec Trace Global)) (cs : List Committed)
-        (rs : List (OpeningRequest D Cubic)) (vs : Openings Cubic) →
+        (rs : List (OpeningRequest preset.Kept Cubic)) (vs : Openings Cubic) →
         AllByRecursion (λ b. All (λ t. 1 ≤ length t.points.items) b.items) bs →
-        AreCommitted Commits blowup bs cs →
-        AllZip (IsRequested kept) cs rs → AllZip (AreAnswers kept k blowup) rs vs →
+        AreCommitted mmcs blowup bs cs → AllZip IsRequested cs rs →
+        AllZip (AreAnswers kept k blowup) rs vs →
         AllByRecursion (λ m. 1 ≤ length m.claims) (all_matrices (pairwise batch_claimed cs vs))
     all-pointed bs [] rs vs some committed asked are = tt
     all-pointed bs (c ∷ cs) rs [] some committed asked are = tt
     all-pointed [] (c ∷ cs) rs (v ∷ vs) some committed asked are = absurd committed
     all-pointed (b ∷ bs) (c ∷ cs) [] (v ∷ vs) some committed asked are = absurd asked
     all-pointed (b ∷ bs) (c ∷ cs) (r ∷ rs) (v ∷ vs) some committed asked are =
-        let is : IsCommitted Commits blowup b.items c = committed.0 in
-        let wanted : IsRequested kept c r = asked.0 in
+        let is : IsCommitted mmcs blowup b.items c = committed.0 in
+        let wanted : IsRequested c r = asked.0 in
         let traces = c.traces.now in
         let pointed =
         recursion_from_All (λ t. 1 ≤ length t.points.items) traces
@@ -256,85 +263,73 @@ module _ (k : Fields Mersenne31 Cubic) (blowup : ℕ) where
         (batch-pointed traces (kept r.prover_data.now) v pointed values)
         (all-pointed bs cs rs vs some.1 committed.1 asked.1 are.1)
 
-module _ {D WD : Type 0}
-    (o : Schemes Sha256Challenger (List ℕ) Mersenne31 Cubic (ShaMmcs Mersenne31) (List ℕ) D
-    (Vec (List ℕ) Global) (ShaMmcs Cubic) (List ℕ) WD (Vec (List ℕ) Global)) (input : Input)
-    (output : Claims)
-    (base : FieldLaws o.fields.field) (laws : FieldLaws o.fields.extension)
-    (e : IsEmbedding o.fields.field o.fields.extension o.fields.embed)
-    (gens : AreGenerators o.fields.field o.fields.two_adicity o.fields.gen)
-    (same_field : o.fields.field ≡ operations) (same_gen : o.fields.gen ≡ generators)
-    (small : o.fields.two_adicity ≤ 62) (below : (s : List ℕ) (n : ℕ) → n ≤ 63 →
-    o.run.base.sampled_bits s n < 2 ^ n) where
+module _ (input : Input) (output : Claims) (committed : List Committed)
+    (requests : List (OpeningRequest preset.Kept Cubic)) (values : Openings Cubic)
+    (asked : AllZip IsRequested committed requests) where
   -- where each matrix has a point
-  pub verified : (mmcs : ShaMmcs Mersenne31) (scheme : ShaMmcs Cubic) (committed : List Committed)
-      (requests : List (OpeningRequest D Cubic)) (values : Openings Cubic) (old new : List ℕ)
+  pub verified : (mmcs : ShaMmcs Mersenne31) (scheme : ShaMmcs Cubic) (old new : List ℕ)
       (p : FriParameters (ShaMmcs Cubic)) → p ≡ with_scheme input.params scheme → AreFit p →
-      p.max_log_arity ≡ 1 → AreRequests o.kept o.fields o.fields.two_adicity p requests
-      → AreCommitted (o.Commits mmcs) p.log_blowup input.batches.items committed →
-      AllZip (IsRequested o.kept) committed requests →
-      AllZip (AreAnswers o.kept o.fields p.log_blowup) requests values
-      → IsOpening p o.kept requests values o.fields o.run (proof_of output.proof) (o.Commits mmcs)
-      (o.authenticates mmcs) (o.WordCommits scheme) (o.word_authenticates scheme) old new
-      → batches_told output.batches.items ≡ pairwise batch_claimed committed values →
-      output.params ≡ input.params
-      → HavePoints input → IsVerifiedFrom o output old new
-  verified mmcs scheme committed requests values old new p same fit arity asked batches wanted
-      answers opening told kept_params some =
-      let long = AllZip-long (IsRequested o.kept) committed requests wanted in
-      let answered = AllZip-long (AreAnswers o.kept o.fields p.log_blowup) requests values
-      answers in
+      p.max_log_arity ≡ 1 →
+      AreRequests kept preset.schemes.fields preset.schemes.fields.two_adicity p requests →
+      AreCommitted mmcs p.log_blowup input.batches.items committed →
+      AllZip (AreAnswers kept preset.schemes.fields p.log_blowup) requests values →
+      IsOpening p kept requests values preset.schemes.fields preset.schemes.run
+      (proof_of output.proof) (Commits mmcs) (preset.schemes.authenticates mmcs)
+      (preset.schemes.WordCommits scheme) (preset.schemes.word_authenticates scheme) old new →
+      batches_told output.batches.items ≡ pairwise batch_claimed committed values →
+      output.params ≡ input.params → HavePoints input → IsVerifiedFrom output old new
+  verified mmcs scheme old new p same fit arity wanted batches answers opening told kept_params
+      some =
+      let k = preset.schemes.fields in
+      let authenticates = preset.schemes.authenticates mmcs in
+      let word_authenticates = preset.schemes.word_authenticates scheme in
+      let long = AllZip-long IsRequested committed requests asked in
+      let answered = AllZip-long (AreAnswers kept k p.log_blowup) requests values answers in
       let as_many : length values ≡ length committed = omega (arith, long, answered) in
       let claims = pairwise batch_claimed committed values in
-      let fits = recursion_from_All (IsFit o.kept o.fields p.log_blowup o.fields.two_adicity)
-      requests asked.fit in
+      let fits = recursion_from_All (IsFit kept k p.log_blowup k.two_adicity) requests wanted.fit in
       let low =
       All-from_recursion
-      (λ (r : OpeningRequest D Cubic). All (IsOfLowDegree o.fields p.log_blowup)
-      (o.kept r.prover_data.now)) requests
-      (all-low o.fields p.log_blowup same_field same_gen o.kept (o.Commits mmcs) input.batches.items
-      committed requests batches wanted fits) in
-      let claimed_all = all-claimed o.fields p.log_blowup o.kept (o.Commits mmcs) p refl
-      input.batches.items committed requests values batches wanted fits as_many in
+      (λ (r : OpeningRequest preset.Kept Cubic). All (IsOfLowDegree k p.log_blowup)
+      (kept r.prover_data.now)) requests
+      (all-low k p.log_blowup refl refl mmcs input.batches.items committed requests batches asked
+      fits) in
+      let claimed_all = all-claimed k p.log_blowup mmcs p refl input.batches.items committed
+      requests values batches asked fits as_many in
       let pointed = All-from_recursion (λ (m : MatrixClaim Cubic). 1 ≤ length m.claims)
       (all_matrices claims)
-      (all-pointed o.fields p.log_blowup o.kept (o.Commits mmcs) input.batches.items committed
-      requests values
+      (all-pointed k p.log_blowup mmcs input.batches.items committed requests values
       (recursion_from_All
       (λ (b : Vec Trace Global). All (λ t. 1 ≤ length t.points.items) b.items)
-      input.batches.items some) batches wanted answers) in
-      let accepted : AcceptsFrom o.fields p o.run (o.authenticates mmcs)
-      (o.word_authenticates scheme) claims (proof_of output.proof) old new =
-      accepts-openings o.fields base laws e gens small o.run below p o.kept (o.Commits mmcs)
-      (o.authenticates mmcs) (o.WordCommits scheme) (o.word_authenticates scheme) requests fit
-      arity asked
-      (low-read o.fields p o.kept requests low) values answers (proof_of output.proof) old new
-      opening claims claimed_all pointed in
+      input.batches.items some) batches asked answers) in
+      let accepted : AcceptsFrom k p preset.schemes.run authenticates word_authenticates claims
+      (proof_of output.proof) old new =
+      accepts-openings k base-laws laws is_embedding are_generators (lit≤ tt) preset.schemes.run
+      (λ s bits h. number-below s bits) p kept (Commits mmcs) authenticates
+      (preset.schemes.WordCommits scheme) word_authenticates requests fit arity wanted
+      (low-read k p kept requests low) values answers (proof_of output.proof) old new opening claims
+      claimed_all pointed in
       record {
         mmcs = mmcs;
         scheme = scheme;
         accepts =
             subst
-            (λ (q : FriParameters (ShaMmcs Cubic)). AcceptsFrom o.fields q o.run
-            (o.authenticates mmcs) (o.word_authenticates scheme) (batches_told output.batches.items)
-            (proof_of output.proof) old new)
+            (λ (q : FriParameters (ShaMmcs Cubic)). AcceptsFrom k q preset.schemes.run authenticates
+            word_authenticates (batches_told output.batches.items) (proof_of output.proof) old new)
             (same ∙ ap (λ ps. with_scheme ps scheme) (sym kept_params))
             (subst
-            (λ bs. AcceptsFrom o.fields p o.run (o.authenticates mmcs)
-            (o.word_authenticates scheme) bs (proof_of output.proof) old new) (sym told) accepted);
+            (λ bs. AcceptsFrom k p preset.schemes.run authenticates word_authenticates bs
+            (proof_of output.proof) old new) (sym told) accepted);
       }
 
-module _ {D WD : Type 0}
-    (o : Schemes Sha256Challenger (List ℕ) Mersenne31 Cubic (ShaMmcs Mersenne31) (List ℕ) D
-    (Vec (List ℕ) Global) (ShaMmcs Cubic) (List ℕ) WD (Vec (List ℕ) Global)) where
-  -- claims of what was opened have the commitments to it
-  pub commitments-opened : (input : Input) (output : Claims) (committed : List Committed)
-      (old new : List ℕ) → AreOpened o input output committed old new →
-      commitments_of output ≡ map (λ c. c.commitment) committed
-  commitments-opened input output committed old new is =
-      let long = AllZip-long (IsRequested o.kept) committed is.requests is.asked in
-      let answered =
-      AllZip-long (AreAnswers o.kept o.fields input.params.log_blowup) is.requests is.values
-      is.answered in
-      same-commitments committed is.values output.batches.items (omega (arith, long, answered))
-      is.claims
+-- claims of what was opened have the commitments to it
+pub commitments-opened : (input : Input) (output : Claims) (committed : List Committed)
+    (old new : List ℕ) → AreOpened input output committed old new →
+    commitments_of output ≡ map (λ c. c.commitment) committed
+commitments-opened input output committed old new is =
+    let long = AllZip-long IsRequested committed is.requests is.asked in
+    let answered =
+    AllZip-long (AreAnswers kept preset.schemes.fields input.params.log_blowup) is.requests
+    is.values is.answered in
+    same-commitments committed is.values output.batches.items (omega (arith, long, answered))
+    is.claims

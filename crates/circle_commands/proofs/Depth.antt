@@ -1,17 +1,11 @@
 -- How deep the JSON of claims and a proof nests.
-use Rattle.std.proofs.Common.{ℕ, zero, suc, ◌+◌, ◌≤◌, List, [], ◌∷◌, map, arith, Vec, Global}
+use Rattle.std.proofs.Common.{ℕ, zero, suc, ◌+◌, ◌≤◌, List, [], ◌∷◌, map, arith}
 use Rattle.std.specs.Bool.{⊤}
-use Rattle.circle_field.specs.Mersenne31.{residue}
-use Rattle.circle_field.specs.Mersenne31Laws.{same_residue}
-use Rattle.circle_field.specs.declared.cubic.Cubic.{Cubic}
-use Rattle.circle_field.specs.declared.mersenne31.Mersenne31.{Mersenne31}
 use Rattle.circle_json.specs.Coefficients.{coefficients_form, coefficients_written}
-use Rattle.circle_json.specs.Form.{Form, count_form, list_form, told_form}
-use Rattle.circle_json.specs.FormFacts.{same_coefficients}
+use Rattle.circle_json.specs.Form.{Form, count_form, list_form}
 use Rattle.circle_json.specs.ObjectForm.{object_form}
 use Rattle.circle_json.specs.Objects.{Fields, field, none_left, members_written}
-use Rattle.circle_json.specs.Values.{coefficient_residues, count_written, digest_of, digest_written}
-use Rattle.circle_json.specs.Values.{residue_of, residues_of, residues_written}
+use Rattle.circle_json.specs.Values.{coefficient_residues, count_written}
 use Rattle.circle_json.specs.Claims.{batch_fields, matrix_fields, opening_fields, parameters_form}
 use Rattle.circle_json.specs.Claims.{parameters_written, point_fields, short_fields, whole_fields}
 use Rattle.circle_commit.specs.declared.params.FriParameters.{FriParameters}
@@ -23,8 +17,8 @@ use Rattle.circle_relation.specs.declared.proof.CircleFriProof.{CircleFriProof}
 use Rattle.circle_relation.specs.declared.proof.CircleInputProof.{CircleInputProof}
 use Rattle.circle_relation.specs.declared.proof.CirclePcsProof.{CirclePcsProof}
 use Rattle.circle_commands.proofs.Texts.{items_within}
-use Rattle.circle_commands.specs.Verify.{input_fields}
-use Rattle.circle_commands.specs.declared.verify.Input.{Input as Claims}
+use Rattle.circle_commands.specs.Forms.{base_form, digest_form, digests_form, element_form}
+use Rattle.circle_commands.specs.Verify.{claims_form, input_fields}
 use Rattle.serde_json.specs.Data.{Data, depth, items_depth, members_depth}
 use Rattle.serde_json.specs.View.{items_of}
 
@@ -194,27 +188,6 @@ module _ {F E I W Witness IC ID IP IE WC WD WP WE : Type 0} (base : Form F) (ele
           ),
         )
 
-abbrev pub base_form : Form Mersenne31
-base_form = told_form residue_of residue count_written same_residue
-
-abbrev pub element_form : Form Cubic
-element_form = told_form residues_of coefficient_residues residues_written same_coefficients
-
-abbrev pub digest_form : Form (List ℕ)
-digest_form = told_form digest_of (λ digest. digest) digest_written (λ x y same. same)
-
-abbrev pub digests_form : Form (Vec (List ℕ) Global)
-digests_form = list_form digest_form
-
--- the form of claims and their proof
-abbrev pub claims_form : Form Claims
-claims_form =
-    object_form
-    (input_fields (λ i. i.proof)
-    (list_form (object_form (batch_fields element_form digest_form))) parameters_form
-    (object_form
-    (proof_fields base_form element_form base_form digests_form digest_form digests_form)))
-
 pub base : IsWithin base_form 0
 base x = omega arith
 
@@ -227,11 +200,7 @@ digest x = omega arith
 
 pub claims : IsWithin claims_form 9
 claims =
-    object
-    (input_fields (λ i. i.proof)
-    (list_form (object_form (batch_fields element_form digest_form))) parameters_form
-    (object_form
-    (proof_fields base_form element_form base_form digests_form digest_form digests_form))) 8 (
+    object input_fields 8 (
       batches element_form digest_form element digest,
       (
         more parameters_form 1 parameters 8 (omega arith),

@@ -14,8 +14,10 @@ use Rattle.circle_domain.specs.Domain.{log_size, shift_of}
 use Rattle.circle_domain.specs.declared.domain.CircleDomain.{CircleDomain}
 use Rattle.circle_field.specs.Mersenne31.{operations, generators}
 use Rattle.circle_field.specs.declared.mersenne31.Mersenne31.{Mersenne31}
+use Rattle.circle_merkle.specs.declared.mmcs.ShaMmcs.{ShaMmcs}
 use Rattle.p3_circle.specs.Committing.{AreExtensions, HaveRowsForPoints, IsExtension, IsExtensionOf}
-use Rattle.circle_commands.specs.Proved.{ArePlaced, IsCommitted, IsExtended, IsRequested}
+use Rattle.circle_commands.specs.Chosen.{preset}
+use Rattle.circle_commands.specs.Proved.{AreCommitted, ArePlaced, IsExtended, IsRequested}
 use Rattle.circle_commands.specs.Rows.{lists}
 use Rattle.circle_commands.specs.Traces.{HasFittingRows}
 use Rattle.circle_commands.specs.declared.prove.Committed.{Committed}
@@ -81,11 +83,10 @@ module _ {g : _} where
       All-cons (λ m. IsPowerOfTwo (height_of m)) m ms (log_size e.0 + blowup, x.0.height)
       (extended_heights blowup es ms x.1)
 
-module _ (Commits : List (RowMajorMatrix Mersenne31) → List ℕ → Type 0) (blowup : ℕ) where
+module _ (mmcs : ShaMmcs Mersenne31) (blowup : ℕ) where
   -- the matrices of committed batches were fitting
   pub committed_fit : (bs : List (Vec Trace Global)) (cs : List Committed) →
-      AllZip (λ b c. IsCommitted Commits blowup b.items c) bs cs →
-      All (λ c. All HasFittingRows c.traces.now) cs
+      AreCommitted mmcs blowup bs cs → All (λ c. All HasFittingRows c.traces.now) cs
   committed_fit [] [] p = All-nil (λ c. All HasFittingRows c.traces.now)
   committed_fit [] (c ∷ cs) p = absurd p
   committed_fit (b ∷ bs) [] p = absurd p
@@ -94,17 +95,17 @@ module _ (Commits : List (RowMajorMatrix Mersenne31) → List ℕ → Type 0) (b
       (subst (All HasFittingRows) (sym p.0.given) p.0.fitting) (committed_fit bs cs p.1)
 
   -- the heights of requested matrices are powers of two
-  pub requested_powers : {D : Type 0} (kept : D → List (RowMajorMatrix Mersenne31))
-      (bs : List (Vec Trace Global)) (cs : List Committed) (rs : List (OpeningRequest D Cubic))
-      → AllZip (λ b c. IsCommitted Commits blowup b.items c) bs cs →
-      AllZip (IsRequested kept) cs rs →
-      All (λ r. HaveHeightsOfPowers (kept r.prover_data.now)) rs
-  requested_powers kept [] [] [] p q = All-nil (λ r. HaveHeightsOfPowers (kept r.prover_data.now))
-  requested_powers kept [] [] (r ∷ rs) p q = absurd q
-  requested_powers kept [] (c ∷ cs) rs p q = absurd p
-  requested_powers kept (b ∷ bs) [] rs p q = absurd p
-  requested_powers kept (b ∷ bs) (c ∷ cs) [] p q = absurd q
-  requested_powers kept (b ∷ bs) (c ∷ cs) (r ∷ rs) p q =
-      All-cons (λ r. HaveHeightsOfPowers (kept r.prover_data.now)) r rs
+  pub requested_powers : (bs : List (Vec Trace Global)) (cs : List Committed)
+      (rs : List (OpeningRequest preset.Kept Cubic)) → AreCommitted mmcs blowup bs cs →
+      AllZip IsRequested cs rs →
+      All (λ r. HaveHeightsOfPowers (preset.schemes.kept r.prover_data.now)) rs
+  requested_powers [] [] [] p q =
+      All-nil (λ r. HaveHeightsOfPowers (preset.schemes.kept r.prover_data.now))
+  requested_powers [] [] (r ∷ rs) p q = absurd q
+  requested_powers [] (c ∷ cs) rs p q = absurd p
+  requested_powers (b ∷ bs) [] rs p q = absurd p
+  requested_powers (b ∷ bs) (c ∷ cs) [] p q = absurd q
+  requested_powers (b ∷ bs) (c ∷ cs) (r ∷ rs) p q =
+      All-cons (λ r. HaveHeightsOfPowers (preset.schemes.kept r.prover_data.now)) r rs
       (subst HaveHeightsOfPowers (sym q.0.matrices) p.0.powers)
-      (requested_powers kept bs cs rs p.1 q.1)
+      (requested_powers bs cs rs p.1 q.1)

@@ -3,27 +3,21 @@ use Rattle.std.proofs.Common.{◌≡◌, ℕ, ◌<◌, ◌⊎◌, List, [], ◌�
 use Rattle.std.proofs.Common.{Result, Ok, Err, MatchResult, IfErr, IsErrAnd, inl, inr, ⊎_elim}
 use Rattle.std.proofs.Common.{replicate, refl, ap, ◌∙◌, subst, sym, Vec, Global}
 use Rattle.std.specs.List.{AllZip}
-use Rattle.circle_challenger.specs.declared.sha256.Sha256Challenger.{Sha256Challenger}
 use Rattle.std.proofs.lemmas.List.Elements.{All-nil, All-cons}
 use Rattle.circle_commit.specs.Parameters.{with_scheme}
 use Rattle.circle_commit.specs.declared.params.FriParameters.{FriParameters}
-use Rattle.circle_commit.specs.declared.matrix.RowMajorMatrix.{RowMajorMatrix}
-use Rattle.circle_commit.specs.declared.pcs.OpeningRequest.{OpeningRequest}
-use Rattle.circle_domain.specs.declared.domain.CircleDomain.{CircleDomain}
 use Rattle.circle_field.specs.declared.cubic.Cubic.{Cubic}
-use Rattle.circle_field.specs.declared.mersenne31.Mersenne31.{Mersenne31}
 use Rattle.circle_merkle.specs.declared.mmcs.ShaMmcs.{ShaMmcs}
-use Rattle.circle_prover.specs.Schemes.{Schemes}
 use Rattle.circle_relation.specs.declared.error.ProverError.{ProverError}
 use Rattle.circle_relation.specs.declared.error.ProverError.TheVariants.{Memory}
-use Rattle.circle_commands.specs.Proved.{IsCommitted, after_batches}
+use Rattle.circle_commands.specs.Preset.{Scheme}
+use Rattle.circle_commands.specs.Proved.{AreCommitted, IsCommitted, after_batches}
 use Rattle.circle_commands.specs.Reasons.{IsCommitReason, IsProveReasonFrom, IsProveRefusal}
 use Rattle.circle_commands.specs.Reasons.{IsProverRefusal}
 use Rattle.circle_commands.specs.Traces.{IsRefusalOfBatches}
 use Rattle.circle_commands.specs.Unproved.{AreUnopened, IsFirstUncommitted, IsOfScheme}
 use Rattle.circle_commands.specs.Unproved.{IsUncommittable, IsUncommitted, IsUnopened}
 use Rattle.circle_commands.specs.Unproved.{IsUnopenedFrom}
-use Rattle.circle_commands.specs.Verified.{Scheme}
 use Rattle.circle_commands.specs.declared.prove.Committed.{Committed}
 use Rattle.circle_commands.specs.declared.prove.Input.{Input}
 use Rattle.circle_commands.specs.declared.prove.Refusal.{Refusal}
@@ -62,26 +56,22 @@ in-params input scheme mmcs same =
     same
     ∙ ap (with_scheme input.params) (sym (ap (λ (p : FriParameters (ShaMmcs Cubic)). p.mmcs) same))
 
-module _ {g : _} (CommitRefuses : Scheme →
-    List (CircleDomain Mersenne31 g × RowMajorMatrix Mersenne31) → ProverError → Type 0)
-    (Commits : List (RowMajorMatrix Mersenne31) → List ℕ → Type 0) (scheme : Scheme) where
+module _ (scheme : Scheme) where
   -- a batch that isn't committed to after others that are
   pub first-uncommitted : (batches : List (Vec Trace Global)) (committed : List Committed) (i : ℕ)
       (item : Vec Trace Global) (traces : List Trace) (e : ProverError) → i < length batches →
-      item ≡ slice_index_or batches i item
-      → AllZip (λ b m. IsCommitted Commits scheme.fri_params.log_blowup b.items m) (take i batches)
-      committed → traces ≡ item.items →
-      (e ≡ Memory) ⊎ IsUncommitted CommitRefuses scheme traces e
-      → (e ≡ Memory) ⊎ IsFirstUncommitted CommitRefuses Commits scheme batches e
+      item ≡ slice_index_or batches i item →
+      AreCommitted scheme.mmcs scheme.fri_params.log_blowup (take i batches) committed →
+      traces ≡ item.items → (e ≡ Memory) ⊎ IsUncommitted scheme traces e →
+      (e ≡ Memory) ⊎ IsFirstUncommitted scheme batches e
   first-uncommitted batches committed i item traces e lt at before same h =
       let Is : Vec Trace Global → Committed → Type 0 =
-      λ b m. IsCommitted Commits scheme.fri_params.log_blowup b.items m in
+      λ b m. IsCommitted scheme.mmcs scheme.fri_params.log_blowup b.items m in
       ⊎_elim (λ m. inl m)
       (λ n. inr
-      (first_at (λ b. (c : Committed) × Is b c)
-      (λ b. IsUncommitted CommitRefuses scheme b.items e) batches i item lt at
-      (each_has Is (take i batches) committed before)
-      (subst (λ ts. IsUncommitted CommitRefuses scheme ts e) same n))) h
+      (first_at (λ b. (c : Committed) × Is b c) (λ b. IsUncommitted scheme b.items e) batches i item
+      lt at (each_has Is (take i batches) committed before)
+      (subst (λ ts. IsUncommitted scheme ts e) same n))) h
 
 -- a refusal of the scheme by an error that is so, where what is so is otherwise too
 of_scheme : (Is Other : ProverError → Type 0) → ((e : ProverError) → Is e → Other e) →
@@ -90,92 +80,75 @@ of_scheme Is Other then RaggedRows h = h
 of_scheme Is Other then HeightNotPowerOfTwo h = h
 of_scheme Is Other then (Prover error) h = then error h
 
-module _ {g : _} {D WD : Type 0}
-    (o : Schemes Sha256Challenger (List ℕ) Mersenne31 Cubic (ShaMmcs Mersenne31) (List ℕ) D
-    (Vec (List ℕ) Global) (ShaMmcs Cubic) (List ℕ) WD (Vec (List ℕ) Global))
-    (CommitRefuses : Scheme → List (CircleDomain Mersenne31 g × RowMajorMatrix Mersenne31) →
-    ProverError → Type 0)
-    (input : Input)
-  where
-    abbrev pub IsUncommittedOf : Refusal → Type 0
-    IsUncommittedOf = IsProverRefusal (IsCommitReason o CommitRefuses input)
+module _ (input : Input) where
+  abbrev pub IsUncommittedOf : Refusal → Type 0
+  IsUncommittedOf = IsProverRefusal (IsCommitReason input)
 
-    -- rows that are refused
-    pub by_rows : {A : Type 0} (r : Result A Refusal) (e : Refusal) → IsErrAnd r (λ x. x ≡ e) →
-        IsRefusalOfBatches input.params.log_final_poly_len input.batches.items e →
-        IfErr r IsUncommittedOf
-    by_rows r e is h = error-is r IsUncommittedOf e is (inr (inl h))
+  -- rows that are refused
+  pub by_rows : {A : Type 0} (r : Result A Refusal) (e : Refusal) → IsErrAnd r (λ x. x ≡ e) →
+      IsRefusalOfBatches input.params.log_final_poly_len input.batches.items e →
+      IfErr r IsUncommittedOf
+  by_rows r e is h = error-is r IsUncommittedOf e is (inr (inl h))
 
-    -- a batch that the scheme refuses to commit to
-    pub by_commit : {A : Type 0} (r : Result A Refusal) (e : ProverError) (scheme : Scheme) →
-        IsErrAnd r (λ x. x ≡ Prover e) →
-        scheme.fri_params ≡ with_scheme input.params scheme.fri_params.mmcs →
-        (e ≡ Memory)
-        ⊎ IsFirstUncommitted CommitRefuses (o.Commits scheme.mmcs) scheme input.batches.items e →
-        IfErr r IsUncommittedOf
-    by_commit r e scheme is params h =
-        error-is r IsUncommittedOf (Prover e) is
+  -- a batch that the scheme refuses to commit to
+  pub by_commit : {A : Type 0} (r : Result A Refusal) (e : ProverError) (scheme : Scheme) →
+      IsErrAnd r (λ x. x ≡ Prover e) →
+      scheme.fri_params ≡ with_scheme input.params scheme.fri_params.mmcs →
+      (e ≡ Memory) ⊎ IsFirstUncommitted scheme input.batches.items e → IfErr r IsUncommittedOf
+  by_commit r e scheme is params h =
+      error-is r IsUncommittedOf (Prover e) is
+      (⊎_elim (λ m. inl (ap Prover m))
+      (λ n. inr (inr (record { scheme = scheme; params = params; refuses = n }))) h)
+
+  abbrev pub IsReasonedFrom : List ℕ → List ℕ → Refusal → Type 0
+  IsReasonedFrom old new = IsProverRefusal (IsProveReasonFrom input old new)
+
+  -- an input that isn't committed to isn't proved
+  pub by_new : {A : Type 0} (r : Result A Refusal) (e : Refusal) → IsErrAnd r (λ x. x ≡ e) →
+      IsUncommittedOf e → IfErr r (IsProveRefusal input)
+  by_new r e is h =
+      error-is r (IsProveRefusal input) e is
+      (⊎_elim (λ m. inl m)
+      (⊎_elim (λ rows. inr (inl rows))
+      (λ u. inr (inr
+      (of_scheme (IsUncommittable input) (λ error. IsUncommittable input error
+      ⊎ IsUnopened input error) (λ error v. inl v) e u)))) h)
+
+  -- and leaves the challenger as it was
+  pub by_new_from : {A : Type 0} (r : Result A Refusal) (e : Refusal) (s : List ℕ) →
+      IsErrAnd r (λ x. x ≡ e) → IsUncommittedOf e → IfErr r (IsReasonedFrom s s)
+  by_new_from r e s is h =
+      error-is r (IsReasonedFrom s s) e is
+      (⊎_elim (λ m. inl m)
+      (⊎_elim (λ rows. inr (inl (rows, refl)))
+      (λ u. inr (inr
+      (of_scheme (IsUncommittable input) (λ error. (IsUncommittable input error × (s ≡ s))
+      ⊎ IsUnopenedFrom input s s error) (λ error v. inl (v, refl)) e u)))) h)
+
+  module _ {A : Type 0} (r : Result A Refusal) (e : ProverError) (given : Input)
+      (committed : List Committed) (old new : List ℕ) (is : IsErrAnd r (λ x. x ≡ Prover e))
+      (same : given ≡ input)
+      (refused : (e ≡ Memory) ⊎ AreUnopened given committed old new e) where
+    -- an opening of what was committed to that is refused
+    pub by_open_from : IfErr r (IsReasonedFrom old new)
+    by_open_from =
+        error-is r (IsReasonedFrom old new) (Prover e) is
         (⊎_elim (λ m. inl (ap Prover m))
-        (λ n. inr (inr (record { scheme = scheme; params = params; refuses = n }))) h)
+        (λ n. inr (inr (inr (
+          committed,
+          subst (λ (i : Input). AreUnopened i committed old new e) same n,
+        )))) refused)
 
-    module _ (OpenRefuses : Scheme → List (OpeningRequest D Cubic) → List ℕ → List ℕ →
-        ProverError → Type 0) where
-      abbrev pub IsReasoned : Refusal → Type 0
-      IsReasoned = IsProveRefusal o CommitRefuses OpenRefuses input
-
-      abbrev pub IsReasonedFrom : List ℕ → List ℕ → Refusal → Type 0
-      IsReasonedFrom old new =
-          IsProverRefusal (IsProveReasonFrom o CommitRefuses OpenRefuses input old new)
-
-      -- an input that isn't committed to isn't proved
-      pub by_new : {A : Type 0} (r : Result A Refusal) (e : Refusal) → IsErrAnd r (λ x. x ≡ e) →
-          IsUncommittedOf e → IfErr r IsReasoned
-      by_new r e is h =
-          error-is r IsReasoned e is
-          (⊎_elim (λ m. inl m)
-          (⊎_elim (λ rows. inr (inl rows))
-          (λ u. inr (inr
-          (of_scheme (IsUncommittable o CommitRefuses input)
-          (λ error. IsUncommittable o CommitRefuses input error
-          ⊎ IsUnopened o OpenRefuses input error) (λ error v. inl v) e u)))) h)
-
-      -- and leaves the challenger as it was
-      pub by_new_from : {A : Type 0} (r : Result A Refusal) (e : Refusal) (s : List ℕ) →
-          IsErrAnd r (λ x. x ≡ e) → IsUncommittedOf e → IfErr r (IsReasonedFrom s s)
-      by_new_from r e s is h =
-          error-is r (IsReasonedFrom s s) e is
-          (⊎_elim (λ m. inl m)
-          (⊎_elim (λ rows. inr (inl (rows, refl)))
-          (λ u. inr (inr
-          (of_scheme (IsUncommittable o CommitRefuses input)
-          (λ error. (IsUncommittable o CommitRefuses input error × (s ≡ s))
-          ⊎ IsUnopenedFrom o OpenRefuses input s s error) (λ error v. inl (v, refl)) e u)))) h)
-
-      module _ {A : Type 0} (r : Result A Refusal) (e : ProverError) (given : Input)
-          (committed : List Committed) (old new : List ℕ) (is : IsErrAnd r (λ x. x ≡ Prover e))
-          (same : given ≡ input)
-          (refused : (e ≡ Memory) ⊎ AreUnopened o OpenRefuses given committed old new e) where
-        -- an opening of what was committed to that is refused
-        pub by_open_from : IfErr r (IsReasonedFrom old new)
-        by_open_from =
-            error-is r (IsReasonedFrom old new) (Prover e) is
-            (⊎_elim (λ m. inl (ap Prover m))
-            (λ n. inr (inr (inr (
-              committed,
-              subst (λ (i : Input). AreUnopened o OpenRefuses i committed old new e) same n,
-            )))) refused)
-
-        -- so from the challenger that has absorbed the commitments
-        pub by_open : old ≡ after_batches (replicate 32 0) committed → IfErr r IsReasoned
-        by_open taken =
-            error-is r IsReasoned (Prover e) is
-            (⊎_elim (λ m. inl (ap Prover m))
-            (λ n. inr (inr (inr (
-              committed,
-              (
-                new,
-                subst (λ (s : List ℕ). AreUnopened o OpenRefuses input committed s new e) taken
-                    (subst (λ (i : Input). AreUnopened o OpenRefuses i committed old new e) same
-                    n),
-              ),
-            )))) refused)
+    -- so from the challenger that has absorbed the commitments
+    pub by_open : old ≡ after_batches (replicate 32 0) committed → IfErr r (IsProveRefusal input)
+    by_open taken =
+        error-is r (IsProveRefusal input) (Prover e) is
+        (⊎_elim (λ m. inl (ap Prover m))
+        (λ n. inr (inr (inr (
+          committed,
+          (
+            new,
+            subst (λ (s : List ℕ). AreUnopened input committed s new e) taken
+                (subst (λ (i : Input). AreUnopened i committed old new e) same n),
+          ),
+        )))) refused)

@@ -1,18 +1,14 @@
 -- What the command `commit` is given, and what it writes.
-use Rattle.std.specs.Prelude.{ℕ, List, map, Vec, codes}
-use Rattle.std.specs.declared.alloc.Global.{Global}
-use Rattle.circle_challenger.specs.declared.sha256.Sha256Challenger.{Sha256Challenger}
-use Rattle.circle_field.specs.declared.cubic.Cubic.{Cubic}
-use Rattle.circle_field.specs.declared.mersenne31.Mersenne31.{Mersenne31}
+use Rattle.std.specs.Prelude.{ℕ, List, map, codes}
 use Rattle.circle_json.specs.Form.{Form}
 use Rattle.circle_json.specs.Values.{digest_written}
-use Rattle.circle_merkle.specs.declared.mmcs.ShaMmcs.{ShaMmcs}
-use Rattle.circle_prover.specs.Schemes.{Schemes}
 use Rattle.serde_json.specs.Data.{Data, array, member, no_members, object}
 use Rattle.serde_json.specs.View.{items_of}
+use Rattle.circle_commands.specs.Prove.{statement_form}
 use Rattle.circle_commands.specs.Proved.{AreCommitments}
 use Rattle.circle_commands.specs.Text.{IsJsonLine}
-use Rattle.circle_commands.specs.declared.prove.Input.{Input}
+use Rattle.circle_commands.specs.declared.commit.Input.{Input}
+use Rattle.circle_commands.specs.declared.prove.Input.{Input as Statement}
 
 -- the form of what consists of this part, which is that of the part
 abbrev pub part_form : {T P : Type 0} → (T → P) → Form P → Form T
@@ -32,11 +28,12 @@ commitments_written commitments =
     object (member (codes "commitments") (array (items_of (map digest_written commitments)))
     no_members)
 
--- the line is that of the commitments to the input's batches
-pub record IsCommitLine {D WD : Type 0}
-    (o : Schemes Sha256Challenger (List ℕ) Mersenne31 Cubic (ShaMmcs Mersenne31) (List ℕ) D
-    (Vec (List ℕ) Global) (ShaMmcs Cubic) (List ℕ) WD (Vec (List ℕ) Global))
-    (input : Input) (line : List ℕ) : Type 0 where
+-- an input of `prove`
+abbrev pub commit_form : Form Input
+commit_form = part_form (λ i. i.statement) statement_form
+
+-- the line is that of the commitments to the batches of an input of `prove`
+pub record IsCommitLine (statement : Statement) (line : List ℕ) : Type 0 where
   pub commitments : List (List ℕ)
-  pub are : AreCommitments o input commitments
+  pub are : AreCommitments statement commitments
   pub written : IsJsonLine (commitments_written commitments) line

@@ -1,6 +1,5 @@
 -- What the command `values` is given, and what it requires of that.
-use Rattle.std.specs.Prelude.{◌≡◌, ℕ, ◌≤◌, ◌^◌, List, length, map, Vec, codes}
-use Rattle.std.specs.declared.alloc.Global.{Global}
+use Rattle.std.specs.Prelude.{◌≡◌, ℕ, ◌≤◌, ◌^◌, List, length, map, codes}
 use Rattle.circle_field.specs.declared.mersenne31.Mersenne31.{Mersenne31}
 use Rattle.circle_field.specs.Mersenne31.{operations, generators}
 use Rattle.circle_field.specs.Circle.{Coordinates, at, IsOnCircle}
@@ -8,7 +7,9 @@ use Rattle.circle_commit.specs.Matrix.{IsPowerOfTwo}
 use Rattle.circle_domain.specs.Order.{natural_order}
 use Rattle.circle_domain.specs.Values.{values_at}
 use Rattle.circle_json.specs.Form.{Form, count_form}
+use Rattle.circle_json.specs.ObjectForm.{object_form}
 use Rattle.circle_json.specs.Objects.{Fields, field, none_left}
+use Rattle.circle_commands.specs.Forms.{rows_form}
 use Rattle.circle_commands.specs.Json.{pair_form}
 use Rattle.circle_commands.specs.Rows.{lists, IsRectangular, row_length}
 use Rattle.circle_commands.specs.declared.values.Input.{Input}
@@ -47,9 +48,12 @@ values_of input =
     (natural_order operations generators input.log_n (shift_of input))
 
 -- the coefficients, the logarithm and the shift
-abbrev pub input_fields : Form (Vec (Vec Mersenne31 Global) Global) → Fields Input
-input_fields coefficients =
-    field (codes "coefficients") (λ i. i.coefficients) coefficients
+abbrev pub input_fields : Fields Input
+input_fields =
+    field (codes "coefficients") (λ i. i.coefficients) rows_form
     (field (codes "log_n") (λ i. i.log_n) count_form
     (field (codes "shift") (λ i. i.shift) pair_form
     none_left))
+
+abbrev pub values_form : Form Input
+values_form = object_form input_fields

@@ -1,11 +1,15 @@
 pub mod Answer
 pub mod Arguments
+pub mod Chosen
+pub mod Commands
 pub mod Commit
 pub mod Commitments
 pub mod Failure
+pub mod Forms
 pub mod Input
 pub mod Json
 pub mod Named
+pub mod Preset
 pub mod Program
 pub mod Proof
 pub mod Prove

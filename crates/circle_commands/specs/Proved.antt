@@ -20,13 +20,13 @@ use Rattle.circle_field.specs.declared.mersenne31.Mersenne31.{Mersenne31}
 use Rattle.circle_merkle.specs.ProverData.{matrices_of}
 use Rattle.circle_merkle.specs.declared.mmcs.ShaMmcs.{ShaMmcs}
 use Rattle.circle_prover.specs.Opening.{IsOpening}
-use Rattle.circle_prover.specs.Schemes.{Schemes}
 use Rattle.circle_codewords.specs.Requests.{AreAnswers, lists_of, log_of}
 use Rattle.circle_commit.specs.declared.claims.CommittedBatch.{CommittedBatch}
 use Rattle.circle_relation.specs.RunOf.{proof_of}
 use Rattle.circle_relation.specs.Statement.{BatchClaim, MatrixClaim}
 use Rattle.circle_codewords.specs.Words.{claim_of}
 use Rattle.p3_circle.specs.Committing.{IsExtensionOf}
+use Rattle.circle_commands.specs.Chosen.{preset}
 use Rattle.circle_commands.specs.Commitments.{after_commitments}
 use Rattle.circle_commands.specs.Rows.{lists}
 use Rattle.circle_commands.specs.Traces.{HasFittingRows}
@@ -94,77 +94,71 @@ batch_claimed c values = record {
 }
 
 -- a batch is committed to: under its commitment are the extensions of its matrices
-pub record IsCommitted (Commits : List (RowMajorMatrix Mersenne31) → List ℕ → Type 0) (blowup : ℕ)
-    (traces : List Trace) (c : Committed) : Type 0 where
+pub record IsCommitted (mmcs : ShaMmcs Mersenne31) (blowup : ℕ) (traces : List Trace)
+    (c : Committed) : Type 0 where
   pub given : c.traces.now ≡ traces
   pub fitting : All HasFittingRows traces
-  pub commitment : Commits (matrices_of c.kept) c.commitment
+  pub commitment : preset.schemes.Commits mmcs (matrices_of c.kept) c.commitment
   pub extended :
       AllZip (λ t made. IsExtended blowup (lists t.rows.items) made) traces (matrices_of c.kept)
   pub powers : HaveHeightsOfPowers (matrices_of c.kept)
 
 -- each batch is committed to
-abbrev pub AreCommitted : (List (RowMajorMatrix Mersenne31) → List ℕ → Type 0) → ℕ →
-    List (Vec Trace Global) → List Committed → Type 0
-AreCommitted Commits blowup batches committed =
-    AllZip (λ b c. IsCommitted Commits blowup b.items c) batches committed
+abbrev pub AreCommitted : ShaMmcs Mersenne31 → ℕ → List (Vec Trace Global) → List Committed →
+    Type 0
+AreCommitted mmcs blowup batches committed =
+    AllZip (λ b c. IsCommitted mmcs blowup b.items c) batches committed
 
 -- a batch's matrices are requested at their points
-pub record IsRequested {D : Type 0} (kept : D → List (RowMajorMatrix Mersenne31)) (c : Committed)
-    (r : OpeningRequest D Cubic) : Type 0 where
-  pub matrices : kept r.prover_data.now ≡ matrices_of c.kept
+pub record IsRequested (c : Committed) (r : OpeningRequest preset.Kept Cubic) : Type 0 where
+  pub matrices : preset.schemes.kept r.prover_data.now ≡ matrices_of c.kept
   pub points : lists_of r.points.items ≡ points_of c.traces.now
 
-module _ {D WD : Type 0}
-    (o : Schemes Sha256Challenger (List ℕ) Mersenne31 Cubic (ShaMmcs Mersenne31) (List ℕ) D
-    (Vec (List ℕ) Global) (ShaMmcs Cubic) (List ℕ) WD (Vec (List ℕ) Global))
-  where
-    -- the scheme with the input's parameters has committed to its batches
-    pub record IsCommittedInput (c : CommittedInput) : Type 0 where
-      pub params :
-          c.scheme.fri_params ≡ with_scheme c.input.now.params c.scheme.fri_params.mmcs
-      pub batches :
-          AreCommitted (o.Commits c.scheme.mmcs) c.scheme.fri_params.log_blowup
-          c.input.now.batches.items c.batches.items
+-- the scheme with the input's parameters has committed to its batches
+pub record IsCommittedInput (c : CommittedInput) : Type 0 where
+  pub params : c.scheme.fri_params ≡ with_scheme c.input.now.params c.scheme.fri_params.mmcs
+  pub batches :
+      AreCommitted c.scheme.mmcs c.scheme.fri_params.log_blowup c.input.now.batches.items
+      c.batches.items
 
-    -- the commitments are to the input's batches, in order
-    pub record AreCommitments (input : Input) (commitments : List (List ℕ)) : Type 0 where
-      pub mmcs : ShaMmcs Mersenne31
-      pub committed : List Committed
-      pub batches :
-          AreCommitted (o.Commits mmcs) input.params.log_blowup input.batches.items committed
-      pub are : commitments ≡ map (λ b. b.commitment) committed
+-- the commitments are to the input's batches, in order
+pub record AreCommitments (input : Input) (commitments : List (List ℕ)) : Type 0 where
+  pub mmcs : ShaMmcs Mersenne31
+  pub committed : List Committed
+  pub batches : AreCommitted mmcs input.params.log_blowup input.batches.items committed
+  pub are : commitments ≡ map (λ b. b.commitment) committed
 
-    -- the batches are committed to so, and opened from a challenger in the one state, which leaves
-    -- it in the other; the claims state the commitments, the points and the values, and the proof
-    -- is theirs
-    pub record AreOpened (input : Input) (output : Claims) (committed : List Committed)
-        (old new : List ℕ) : Type 0 where
-      pub mmcs : ShaMmcs Mersenne31
-      pub scheme : ShaMmcs Cubic
-      pub requests : List (OpeningRequest D Cubic)
-      pub values : Openings Cubic
-      pub batches :
-          AreCommitted (o.Commits mmcs) input.params.log_blowup input.batches.items committed
-      pub asked : AllZip (IsRequested o.kept) committed requests
-      pub answered :
-          AllZip (AreAnswers o.kept o.fields input.params.log_blowup) requests values
-      pub opened :
-          IsOpening (with_scheme input.params scheme) o.kept requests values o.fields o.run
-          (proof_of output.proof) (o.Commits mmcs) (o.authenticates mmcs) (o.WordCommits scheme)
-          (o.word_authenticates scheme) old new
-      pub claims : batches_told output.batches.items ≡ pairwise batch_claimed committed values
-      pub params : output.params ≡ input.params
+-- the batches are committed to so, and opened from a challenger in the one state, which leaves it
+-- in the other; the claims state the commitments, the points and the values, and the proof is
+-- theirs
+pub record AreOpened (input : Input) (output : Claims) (committed : List Committed)
+    (old new : List ℕ) : Type 0 where
+  pub mmcs : ShaMmcs Mersenne31
+  pub scheme : ShaMmcs Cubic
+  pub requests : List (OpeningRequest preset.Kept Cubic)
+  pub values : Openings Cubic
+  pub batches : AreCommitted mmcs input.params.log_blowup input.batches.items committed
+  pub asked : AllZip IsRequested committed requests
+  pub answered :
+      AllZip (AreAnswers preset.schemes.kept preset.schemes.fields input.params.log_blowup) requests
+      values
+  pub opened :
+      IsOpening (with_scheme input.params scheme) preset.schemes.kept requests values
+      preset.schemes.fields preset.schemes.run (proof_of output.proof)
+      (preset.schemes.Commits mmcs) (preset.schemes.authenticates mmcs)
+      (preset.schemes.WordCommits scheme) (preset.schemes.word_authenticates scheme) old new
+  pub claims : batches_told output.batches.items ≡ pairwise batch_claimed committed values
+  pub params : output.params ≡ input.params
 
-    -- they are committed to and opened from a challenger in the one state
-    abbrev pub IsProvedFrom : Input → Claims → List ℕ → List ℕ → Type 0
-    IsProvedFrom input output old new =
-        (committed : List Committed) × AreOpened input output committed old new
+-- they are committed to and opened from a challenger in the one state
+abbrev pub IsProvedFrom : Input → Claims → List ℕ → List ℕ → Type 0
+IsProvedFrom input output old new =
+    (committed : List Committed) × AreOpened input output committed old new
 
-    -- and from the challenger that has absorbed the commitments alone
-    pub record IsProved (input : Input) (output : Claims) : Type 0 where
-      pub committed : List Committed
-      pub start : Sha256Challenger
-      pub left : Sha256Challenger
-      pub taken : state_of start ≡ after_batches (replicate 32 0) committed
-      pub opened : AreOpened input output committed (state_of start) (state_of left)
+-- and from the challenger that has absorbed the commitments alone
+pub record IsProved (input : Input) (output : Claims) : Type 0 where
+  pub committed : List Committed
+  pub start : Sha256Challenger
+  pub left : Sha256Challenger
+  pub taken : state_of start ≡ after_batches (replicate 32 0) committed
+  pub opened : AreOpened input output committed (state_of start) (state_of left)

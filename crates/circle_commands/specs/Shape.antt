@@ -2,13 +2,18 @@
 use Rattle.std.specs.Prelude.{ℕ, ◌<◌, ◌+◌, ◌-◌, List, length, codes}
 use Rattle.hex.specs.Hex.{encode_lower}
 use Rattle.circle_json.specs.Claims.{parameters_form}
-use Rattle.circle_json.specs.Form.{count_form, list_form}
+use Rattle.circle_json.specs.Form.{Form, count_form, list_form}
+use Rattle.circle_json.specs.ObjectForm.{object_form}
 use Rattle.circle_json.specs.Objects.{Fields, field, none_left}
 use Rattle.circle_json.specs.Values.{count_written}
 use Rattle.circle_transcript.specs.Shape.{Shape, layout, steps_of, text_of}
 use Rattle.circle_transcript.specs.declared.shape.CirclePcsShape.{CirclePcsShape}
 use Rattle.serde_json.specs.Data.{Data, member, no_members, object, string}
 use Rattle.circle_commands.specs.declared.shape.Input.{Input}
+
+-- the degree of the extension that challenges are in
+abbrev pub degree : ℕ
+degree = 3
 
 -- the greatest height's logarithm, the claims' numbers of columns and the parameters
 abbrev pub input_fields : Fields Input
@@ -18,6 +23,9 @@ input_fields =
     (list_form (list_form (list_form count_form)))
     (field (codes "params") (λ i. i.params) parameters_form
     none_left))
+
+abbrev pub shape_form : Form Input
+shape_form = object_form input_fields
 
 -- the greatest height is past the blowup and the final polynomial
 abbrev pub HasRoom : Input → Type 0

@@ -1,6 +1,5 @@
 -- When the command `verify` accepts.
-use Rattle.std.specs.Prelude.{◌≡◌, ℕ, List, map, replicate, Vec, codes}
-use Rattle.std.specs.declared.alloc.Global.{Global}
+use Rattle.std.specs.Prelude.{◌≡◌, ℕ, List, map, replicate, codes}
 use Rattle.circle_field.specs.declared.cubic.Cubic.{Cubic}
 use Rattle.circle_field.specs.declared.mersenne31.Mersenne31.{Mersenne31}
 use Rattle.circle_challenger.specs.Sha256Challenger.{state_of}
@@ -8,15 +7,14 @@ use Rattle.circle_challenger.specs.declared.sha256.Sha256Challenger.{Sha256Chall
 use Rattle.circle_commit.specs.Parameters.{with_scheme}
 use Rattle.circle_commit.specs.declared.pcs.CommitmentOpening.{CommitmentOpening}
 use Rattle.circle_commit.specs.declared.pcs.MatrixOpening.{MatrixOpening}
-use Rattle.circle_domain.specs.declared.domain.CircleDomain.{CircleDomain}
 use Rattle.circle_merkle.specs.declared.mmcs.ShaMmcs.{ShaMmcs}
-use Rattle.circle_prover.specs.Schemes.{Schemes}
 use Rattle.circle_relation.specs.Accepts.{AcceptsFrom}
 use Rattle.circle_relation.specs.RunOf.{proof_of}
 use Rattle.circle_relation.specs.Statement.{BatchClaim, MatrixClaim}
 use Rattle.circle_relation.specs.StatementOf.{batch_claims, point_claim}
-use Rattle.p3_circle.specs.declared.pcs.CirclePcs.{CirclePcs}
+use Rattle.circle_commands.specs.Chosen.{preset}
 use Rattle.circle_commands.specs.Commitments.{after_commitments}
+use Rattle.circle_commands.specs.Preset.{Scheme, VerifierError}
 use Rattle.circle_commands.specs.declared.verify.Input.{Input}
 
 -- the claims about matrices whose sizes are given by logarithms
@@ -37,49 +35,38 @@ batches_told batches = map batch_told batches
 abbrev pub after_claims : List ℕ → List (CommitmentOpening Cubic (List ℕ) ℕ) → List ℕ
 after_claims s batches = after_commitments s (map (λ b. b.commitment) batches)
 
-module _ {D WD : Type 0}
-    (o : Schemes Sha256Challenger (List ℕ) Mersenne31 Cubic (ShaMmcs Mersenne31) (List ℕ) D
-    (Vec (List ℕ) Global) (ShaMmcs Cubic) (List ℕ) WD (Vec (List ℕ) Global)) (input : Input)
-  where
-    -- the verifier accepts the proof of the input's claims from a challenger in the one state, and
-    -- leaves it in the other, under the scheme's relation
-    pub record IsVerifiedFrom (old new : List ℕ) : Type 0 where
-      pub mmcs : ShaMmcs Mersenne31
-      pub scheme : ShaMmcs Cubic
-      pub accepts :
-          AcceptsFrom o.fields (with_scheme input.params scheme) o.run (o.authenticates mmcs)
-          (o.word_authenticates scheme) (batches_told input.batches.items) (proof_of input.proof)
-          old new
+module _ (input : Input) where
+  -- the verifier accepts the proof of the input's claims from a challenger in the one state, and
+  -- leaves it in the other, under the scheme's relation
+  pub record IsVerifiedFrom (old new : List ℕ) : Type 0 where
+    pub mmcs : ShaMmcs Mersenne31
+    pub scheme : ShaMmcs Cubic
+    pub accepts :
+        AcceptsFrom preset.schemes.fields (with_scheme input.params scheme) preset.schemes.run
+        (preset.schemes.authenticates mmcs) (preset.schemes.word_authenticates scheme)
+        (batches_told input.batches.items) (proof_of input.proof) old new
 
-    -- it does so from a challenger that has absorbed the commitments alone
-    pub record IsVerified : Type 0 where
-      pub start : Sha256Challenger
-      pub left : Sha256Challenger
-      pub taken : state_of start ≡ after_claims (replicate 32 0) input.batches.items
-      pub verified : IsVerifiedFrom (state_of start) (state_of left)
+  -- it does so from a challenger that has absorbed the commitments alone
+  pub record IsVerified : Type 0 where
+    pub start : Sha256Challenger
+    pub left : Sha256Challenger
+    pub taken : state_of start ≡ after_claims (replicate 32 0) input.batches.items
+    pub verified : IsVerifiedFrom (state_of start) (state_of left)
 
--- the scheme over these parts
-abbrev pub Scheme : Type 0
-Scheme = CirclePcs Mersenne31 (ShaMmcs Mersenne31) (ShaMmcs Cubic)
+  -- the scheme refuses, for this reason, the input's claims and parameters, from a challenger in
+  -- the one state, and leaves it in the other
+  pub record IsUnverifiedFrom (old new : List ℕ) (error : VerifierError) : Type 0 where
+    pub scheme : Scheme
+    pub claims : List (CommitmentOpening Cubic (List ℕ) preset.Domain)
+    pub params : scheme.fri_params ≡ with_scheme input.params scheme.fri_params.mmcs
+    pub told : batch_claims claims ≡ batches_told input.batches.items
+    pub refuses : preset.VerifyRefuses scheme claims input.proof old new error
 
-module _ {g : _} {Proof Error : Type 0}
-    (Refuses : Scheme → List (CommitmentOpening Cubic (List ℕ) (CircleDomain Mersenne31 g))
-    → Proof → List ℕ → List ℕ → Error → Type 0) (proof : Proof) (input : Input)
-  where
-    -- the scheme refuses, for this reason, the input's claims and parameters, from a challenger in
-    -- the one state, and leaves it in the other
-    pub record IsUnverifiedFrom (old new : List ℕ) (error : Error) : Type 0 where
-      pub scheme : Scheme
-      pub claims : List (CommitmentOpening Cubic (List ℕ) (CircleDomain Mersenne31 g))
-      pub params : scheme.fri_params ≡ with_scheme input.params scheme.fri_params.mmcs
-      pub told : batch_claims claims ≡ batches_told input.batches.items
-      pub refuses : Refuses scheme claims proof old new error
-
-    -- it does so from a challenger that has absorbed the commitments alone
-    abbrev pub IsUnverified : Error → Type 0
-    IsUnverified error =
-        (left : List ℕ)
-        × IsUnverifiedFrom (after_claims (replicate 32 0) input.batches.items) left error
+  -- it does so from a challenger that has absorbed the commitments alone
+  abbrev pub IsUnverified : VerifierError → Type 0
+  IsUnverified error =
+      (left : List ℕ)
+      × IsUnverifiedFrom (after_claims (replicate 32 0) input.batches.items) left error
 
 -- the line of a proof that is accepted
 abbrev pub verified_line : List ℕ

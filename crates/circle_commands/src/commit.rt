@@ -12,9 +12,7 @@ use crate::failure::Failure;
 use crate::json;
 use crate::prove::{self, CommittedInput, Refusal};
 use circle_json::{JsonError, JsonForm};
-use circle_presets::{Challenge, ChallengeMmcs, Challenger, Commitment, Scheme, Val, ValMmcs};
-use circle_prover::OpeningOver;
-use p3_circle::Pcs;
+use circle_presets::Commitment;
 use serde_json::{Value, json};
 use std::alloc::{AllocError, Global};
 
@@ -27,18 +25,14 @@ pub struct Input {
 
 /// An input of `prove`.
 impl Command for Input {
-    ghost use Rattle.circle_commands.specs.Commit.{IsCommitLine, part_form};
+    ghost use Rattle.circle_commands.specs.Commit.{IsCommitLine, commit_form};
     ghost use Rattle.circle_commands.specs.Reasons.{IsCommitReason};
 
-    ghost form = { part_form (λ i. i.statement) ⟦<prove::Input as JsonForm>⟧.form };
+    ghost form = { commit_form };
 
-    ghost is_result = { λ input. IsCommitLine
-        ⟦<Challenger as OpeningOver<Val, Challenge, ValMmcs, ChallengeMmcs>>⟧.schemes
-        input.statement };
+    ghost is_result = { λ input. IsCommitLine input.statement };
 
-    ghost is_reason = { λ input. IsCommitReason
-        ⟦<Challenger as OpeningOver<Val, Challenge, ValMmcs, ChallengeMmcs>>⟧.schemes
-        ⟦<Scheme as Pcs<Challenge, Challenger>>⟧.commit_refuses input.statement };
+    ghost is_reason = { λ input. IsCommitReason input.statement };
 
     fn read(alloc: Global, value: &Value) -> Result<Input, JsonError> {
         Ok(Input {
@@ -65,12 +59,8 @@ impl Command for Input {
 pub fn commit(alloc: Global, input: &prove::Input) -> Result<Vec<Commitment>, Refusal>
     ensures rows { let f = input.now.params.log_final_poly_len in let bs = input.now.batches.items
         in MatchResult result (λ _. AreTall f bs) (λ e. IsRefusalOfBatches f bs e ⊎ AreTall f bs) }
-    ensures commitments { let o =
-        ⟦<Challenger as OpeningOver<Val, Challenge, ValMmcs, ChallengeMmcs>>⟧ in IfOk result
-        (λ v. AreCommitments o.schemes input.now v.items) }
-    ensures reason { let o = ⟦<Challenger as OpeningOver<Val, Challenge, ValMmcs, ChallengeMmcs>>⟧
-        in let p = ⟦<Scheme as Pcs<Challenge, Challenger>>⟧ in IfErr result (IsProverRefusal
-        (IsCommitReason o.schemes p.commit_refuses input.now)) }
+    ensures commitments { IfOk result (λ v. AreCommitments input.now v.items) }
+    ensures reason { IfErr result (IsProverRefusal (IsCommitReason input.now)) }
 {
     let committed = CommittedInput::new(alloc, input)?;
     Ok(committed.commitments(alloc)?)

@@ -2,8 +2,8 @@
 //!
 //! Each command is a module with the type of its input, `Input`, the reasons to refuse it,
 //! `Refusal`, and the call that computes its result. `Input` implements the trait [`Command`], by
-//! which [`command::answer`] turns a text's bytes into the line of the result, or a [`Failure`]. The
-//! program, [`run::run`], and the library for C rest on these. What is proved:
+//! which [`command::answer`] turns a text's bytes into the line of the result, or a [`Failure`].
+//! The program, [`run::run`], and the library for C rest on these. What is proved:
 //!
 //! - `command::answer` returns a line only where the text stands for an input of which the line is
 //!   a result. It fails only where the text isn't JSON, where it is JSON that the input's form
@@ -34,10 +34,12 @@
 //! Its files:
 //!
 //! - In `specs/`: one file for each command's input; `Verified`, `Proved`, `Unproved`, `Proof` and
-//!   `Traces`, what `verify`, `prove` and `commit` return and refuse; `Reasons`, the reasons of all commands;
-//!   `Named`, the names of refusals; `Failure`, lines and statuses; `Text`, what bytes stand for;
-//!   `Answer`, what a command makes of them; `Program`, what a run reads and writes; `Arguments`,
-//!   `Commitments`, `Json`, `Rows`.
+//!   `Traces`, what `verify`, `prove` and `commit` return and refuse; `Reasons`, the reasons of all
+//!   commands; `Commands`, the commands by name; `Preset` and `Chosen`, what the schemes are to
+//!   contracts at the one choice of types, named once so that no clause quotes an `impl`; `Forms`,
+//!   how elements, digests and rows stand in JSON; `Named`, the names of refusals; `Failure`, lines
+//!   and statuses; `Text`, what bytes stand for; `Answer`, what a command makes of them; `Program`,
+//!   what a run reads and writes; `Arguments`, `Commitments`, `Json`, `Rows`.
 //! - In `proofs/`: what they need of lists, rows, batches, texts and of how deep JSON nests.
 #![tactic(auto)]
 
@@ -46,6 +48,7 @@ pub mod commit;
 mod commitments;
 pub mod failure;
 pub mod json;
+mod preset;
 pub mod prove;
 pub mod run;
 pub mod shape;

@@ -7,7 +7,6 @@ ghost use Rattle.std.specs.List.{AllZip};
 ghost use Rattle.circle_commit.specs.DotProduct.{pairwise};
 ghost use Rattle.circle_commit.specs.Matrix.{IsPowerOfTwo};
 ghost use Rattle.circle_commit.specs.Pcs.{openings};
-ghost use Rattle.circle_json.specs.ObjectForm.{object_form};
 ghost use Rattle.circle_codewords.specs.Requests.{lists_of};
 ghost use Rattle.circle_relation.specs.declared.error.ProverError.TheVariants.{Memory};
 ghost use Rattle.circle_commands.specs.Named.{prove_name};
@@ -15,7 +14,7 @@ ghost use Rattle.circle_commands.specs.Reasons.{IsCommitReason, IsProveReasonFro
 ghost use Rattle.circle_commands.specs.Reasons.{IsProveRefusal, IsProverRefusal};
 ghost use Rattle.circle_commands.specs.Text.{IsLineOf};
 ghost use Rattle.circle_commands.specs.Unproved.{AreUnopened, IsFirstUncommitted, IsUncommitted};
-ghost use Rattle.circle_commands.specs.Prove.{input_fields, trace_fields};
+ghost use Rattle.circle_commands.specs.Prove.{statement_form, trace_form};
 ghost use Rattle.circle_commands.specs.Proved.{AreCommitments, AreCommitted, AreOpened, ArePlaced};
 ghost use Rattle.circle_commands.specs.Proved.{HavePoints, IsCommitted, IsCommittedInput, IsProved};
 ghost use Rattle.circle_commands.specs.Proved.{IsProvedFrom, IsRequested, batch_claimed};
@@ -26,6 +25,7 @@ ghost use Rattle.circle_commands.specs.Traces.{AreTall, AreTallRows, HasTallRows
 ghost use Rattle.circle_commands.specs.Traces.{IsRefusalOfBatch, IsRefusalOfBatches};
 ghost use Rattle.circle_commands.specs.Traces.{IsRefusalOfRows};
 ghost use Rattle.circle_commands.specs.Verified.{IsVerified, IsVerifiedFrom, batches_told};
+ghost use Rattle.circle_commands.specs.Verify.{claims_form};
 ghost use Rattle.circle_commands.specs.declared.prove.Refusal.TheVariants.{Prover};
 
 use crate::command::{Command, CommandFrom};
@@ -34,16 +34,14 @@ use crate::failure::Failure;
 use crate::values::{is_rectangular, matrix};
 use crate::{json, verify};
 use circle_commit::{
-    FriParameters, Mmcs, OpenedValues, OpeningRequest, RowMajorMatrix, is_power_of_two, log2_strict,
+    FriParameters, OpenedValues, OpeningRequest, RowMajorMatrix, is_power_of_two, log2_strict,
 };
 use circle_field::{Cubic, Mersenne31};
 use circle_json::{JsonError, JsonForm, has_keys, member};
 use circle_presets::{
-    Challenge, ChallengeMmcs, Challenger, ClaimOn, Commitment, ProverData, Request, Scheme, Val,
-    ValMmcs,
+    ChallengeMmcs, Challenger, ClaimOn, Commitment, ProverData, Request, Scheme, ValMmcs,
 };
-use circle_prover::OpeningOver;
-use p3_circle::{CircleDomain, CommittedBatch, Pcs, ProverError, claims_of};
+use p3_circle::{CircleDomain, CommittedBatch, ProverError, claims_of};
 use serde_json::{Value, json};
 use std::alloc::{AllocError, Global};
 
@@ -95,8 +93,7 @@ pub struct Trace {
 
 /// An object of the `points` and the `rows`.
 impl JsonForm for Trace {
-    ghost form = { object_form (trace_fields ⟦<Vec<Cubic> as JsonForm>⟧.form
-        ⟦<Vec<Vec<Mersenne31>> as JsonForm>⟧.form) };
+    ghost form = { trace_form };
 
     fn to_json(&self, alloc: Global) -> Result<Value, AllocError> {
         json!(in alloc; {
@@ -125,8 +122,7 @@ pub struct Input {
 
 /// An object of the `batches` and the `params`.
 impl JsonForm for Input {
-    ghost form = { object_form (input_fields ⟦<Vec<Vec<Trace>> as JsonForm>⟧.form
-        ⟦<FriParameters<()> as JsonForm>⟧.form) };
+    ghost form = { statement_form };
 
     fn to_json(&self, alloc: Global) -> Result<Value, AllocError> {
         json!(in alloc; {
@@ -188,16 +184,11 @@ impl Command for Input {
     ghost use Rattle.circle_commands.specs.Proof.{IsProofLine};
     ghost use Rattle.circle_commands.specs.Reasons.{IsProveReason};
 
-    ghost form = { ⟦<Input as JsonForm>⟧.form };
+    ghost form = { statement_form };
 
-    ghost is_result = { IsProofLine
-        ⟦<Challenger as OpeningOver<Val, Challenge, ValMmcs, ChallengeMmcs>>⟧.schemes
-        ⟦<verify::Input as JsonForm>⟧.form };
+    ghost is_result = { IsProofLine };
 
-    ghost is_reason = { IsProveReason
-        ⟦<Challenger as OpeningOver<Val, Challenge, ValMmcs, ChallengeMmcs>>⟧.schemes
-        ⟦<Scheme as Pcs<Challenge, Challenger>>⟧.commit_refuses
-        ⟦<Scheme as Pcs<Challenge, Challenger>>⟧.open_refuses };
+    ghost is_reason = { IsProveReason };
 
     fn read(alloc: Global, value: &Value) -> Result<Input, JsonError> {
         <Input as JsonForm>::from_json(alloc, value)
@@ -216,14 +207,9 @@ impl CommandFrom for Input {
     ghost use Rattle.circle_commands.specs.Proof.{IsProofLineFrom};
     ghost use Rattle.circle_commands.specs.Reasons.{IsProveReasonFrom};
 
-    ghost is_result_from = { IsProofLineFrom
-        ⟦<Challenger as OpeningOver<Val, Challenge, ValMmcs, ChallengeMmcs>>⟧.schemes
-        ⟦<verify::Input as JsonForm>⟧.form };
+    ghost is_result_from = { IsProofLineFrom };
 
-    ghost is_reason_from = { IsProveReasonFrom
-        ⟦<Challenger as OpeningOver<Val, Challenge, ValMmcs, ChallengeMmcs>>⟧.schemes
-        ⟦<Scheme as Pcs<Challenge, Challenger>>⟧.commit_refuses
-        ⟦<Scheme as Pcs<Challenge, Challenger>>⟧.open_refuses };
+    ghost is_reason_from = { IsProveReasonFrom };
 
     /// The line of claims, parameters and a proof, as [`verify::Input`] reads them.
     ///
@@ -236,8 +222,7 @@ impl CommandFrom for Input {
 
 // The compact text of claims, as a line.
 fn claims_line(alloc: Global, claims: &verify::Input) -> Result<String, AllocError>
-    ensures { IfOk result (λ line. IsLineOf ⟦<verify::Input as JsonForm>⟧.form claims.now
-        (string_bytes line)) }
+    ensures { IfOk result (λ line. IsLineOf claims_form claims.now (string_bytes line)) }
 {
     json::line(alloc, &claims.to_json(alloc)?)
 }
@@ -254,13 +239,9 @@ fn claims_line(alloc: Global, claims: &verify::Input) -> Result<String, AllocErr
 pub fn prove(alloc: Global, input: Input) -> Result<verify::Input, Refusal>
     ensures rows { let f = input.params.log_final_poly_len in let bs = input.batches.items in
         MatchResult result (λ _. AreTall f bs) (λ e. IsRefusalOfBatches f bs e ⊎ AreTall f bs) }
-    ensures proof { IfOk result (IsProved
-        ⟦<Challenger as OpeningOver<Val, Challenge, ValMmcs, ChallengeMmcs>>⟧.schemes input) }
-    ensures accepted { let o = ⟦<Challenger as OpeningOver<Val, Challenge, ValMmcs, ChallengeMmcs>>⟧
-        in IfOk result (λ out. HavePoints input → IsVerified o.schemes out) }
-    ensures reason { let o = ⟦<Challenger as OpeningOver<Val, Challenge, ValMmcs, ChallengeMmcs>>⟧
-        in let p = ⟦<Scheme as Pcs<Challenge, Challenger>>⟧ in IfErr result
-        (IsProveRefusal o.schemes p.commit_refuses p.open_refuses input) }
+    ensures proof { IfOk result (IsProved input) }
+    ensures accepted { IfOk result (λ out. HavePoints input → IsVerified out) }
+    ensures reason { IfErr result (IsProveRefusal input) }
 {
     let committed = CommittedInput::new(alloc, &input)?;
     let mut challenger = Challenger::new();
@@ -283,19 +264,13 @@ pub fn prove_from(
 ) -> Result<verify::Input, Refusal>
     ensures rows { let f = input.params.log_final_poly_len in let bs = input.batches.items in
         MatchResult result (λ _. AreTall f bs) (λ e. IsRefusalOfBatches f bs e ⊎ AreTall f bs) }
-    ensures proof { let o = ⟦<Challenger as OpeningOver<Val, Challenge, ValMmcs, ChallengeMmcs>>⟧
-        in IfOk result (λ out. IsProvedFrom o.schemes input out (state_of challenger.old)
-        (state_of challenger.new)) }
-    ensures commitments { let o =
-        ⟦<Challenger as OpeningOver<Val, Challenge, ValMmcs, ChallengeMmcs>>⟧ in IfOk result
-        (λ out. AreCommitments o.schemes input (commitments_of out)) }
-    ensures accepted { let o = ⟦<Challenger as OpeningOver<Val, Challenge, ValMmcs, ChallengeMmcs>>⟧
-        in IfOk result (λ out. HavePoints input → IsVerifiedFrom o.schemes out
-        (state_of challenger.old) (state_of challenger.new)) }
-    ensures reason { let o = ⟦<Challenger as OpeningOver<Val, Challenge, ValMmcs, ChallengeMmcs>>⟧
-        in let p = ⟦<Scheme as Pcs<Challenge, Challenger>>⟧ in IfErr result (IsProverRefusal
-        (IsProveReasonFrom o.schemes p.commit_refuses p.open_refuses input
-        (state_of challenger.old) (state_of challenger.new))) }
+    ensures proof { IfOk result (λ out.
+        IsProvedFrom input out (state_of challenger.old) (state_of challenger.new)) }
+    ensures commitments { IfOk result (λ out. AreCommitments input (commitments_of out)) }
+    ensures accepted { IfOk result (λ out. HavePoints input
+        → IsVerifiedFrom out (state_of challenger.old) (state_of challenger.new)) }
+    ensures reason { IfErr result (IsProverRefusal
+        (IsProveReasonFrom input (state_of challenger.old) (state_of challenger.new))) }
 {
     let committed = CommittedInput::new(alloc, &input)?;
     Ok(committed.open(alloc, challenger)?)
@@ -310,12 +285,8 @@ impl<'a> CommittedInput<'a> {
             input.now.batches.items in MatchResult result (λ _. AreTall f bs)
             (λ e. IsRefusalOfBatches f bs e ⊎ AreTall f bs) }
         ensures input { IfOk result (λ c. c.input.now ≡ input.now) }
-        ensures committed { IfOk result (IsCommittedInput
-            ⟦<Challenger as OpeningOver<Val, Challenge, ValMmcs, ChallengeMmcs>>⟧.schemes) }
-        ensures reason { let o =
-            ⟦<Challenger as OpeningOver<Val, Challenge, ValMmcs, ChallengeMmcs>>⟧ in
-            let p = ⟦<Scheme as Pcs<Challenge, Challenger>>⟧ in IfErr result
-            (IsProverRefusal (IsCommitReason o.schemes p.commit_refuses input.now)) }
+        ensures committed { IfOk result IsCommittedInput }
+        ensures reason { IfErr result (IsProverRefusal (IsCommitReason input.now)) }
     {
         validate_batches(input.params.log_final_poly_len, &input.batches)?;
         let scheme = Scheme::new(ValMmcs::new(), input.params.with_mmcs(ChallengeMmcs::new()));
@@ -340,21 +311,14 @@ impl<'a> CommittedInput<'a> {
 
     // Opens the batches from the challenger's state.
     fn open(&self, alloc: Global, challenger: &mut Challenger) -> Result<verify::Input, ProverError>
-        requires { IsCommittedInput
-            ⟦<Challenger as OpeningOver<Val, Challenge, ValMmcs, ChallengeMmcs>>⟧.schemes self.now }
-        ensures opened { let o =
-            ⟦<Challenger as OpeningOver<Val, Challenge, ValMmcs, ChallengeMmcs>>⟧ in IfOk
-            result (λ out. AreOpened o.schemes self.now.input.now out self.now.batches.items
-            (state_of challenger.old) (state_of challenger.new)) }
-        ensures accepted { let o =
-            ⟦<Challenger as OpeningOver<Val, Challenge, ValMmcs, ChallengeMmcs>>⟧ in IfOk
-            result (λ out. HavePoints self.now.input.now → IsVerifiedFrom o.schemes out
-            (state_of challenger.old) (state_of challenger.new)) }
-        ensures reason { let o =
-            ⟦<Challenger as OpeningOver<Val, Challenge, ValMmcs, ChallengeMmcs>>⟧ in
-            let p = ⟦<Scheme as Pcs<Challenge, Challenger>>⟧ in IfErr result
-            (λ e. (e ≡ Memory) ⊎ AreUnopened o.schemes p.open_refuses self.now.input.now
-            self.now.batches.items (state_of challenger.old) (state_of challenger.new) e) }
+        requires { IsCommittedInput self.now }
+        ensures opened { IfOk result (λ out. AreOpened self.now.input.now out
+            self.now.batches.items (state_of challenger.old) (state_of challenger.new)) }
+        ensures accepted { IfOk result (λ out. HavePoints self.now.input.now
+            → IsVerifiedFrom out (state_of challenger.old) (state_of challenger.new)) }
+        ensures reason { let s = state_of in IfErr result
+            (λ e. (e ≡ Memory) ⊎ AreUnopened self.now.input.now self.now.batches.items
+            (s challenger.old) (s challenger.new) e) }
     {
         let requests = requests(alloc, &self.batches)?;
         let (values, proof) = self.scheme.open(alloc, requests, challenger)?;
@@ -427,11 +391,10 @@ fn commit_batches<'a>(
     batches: &'a [Vec<Trace>],
 ) -> Result<Vec<Committed<'a>>, ProverError>
     requires { AreFitting batches.now }
-    ensures made { IfOk result (λ v. AreCommitted (⟦<ValMmcs as Mmcs<Val>>⟧.commits
-        scheme.now.mmcs) scheme.now.fri_params.log_blowup batches.now v.items) }
-    ensures reason { let p = ⟦<Scheme as Pcs<Challenge, Challenger>>⟧ in IfErr result (λ e.
-        (e ≡ Memory) ⊎ IsFirstUncommitted p.commit_refuses (⟦<ValMmcs as Mmcs<Val>>⟧.commits
-        scheme.now.mmcs) scheme.now batches.now e) }
+    ensures made { IfOk result (λ v. AreCommitted scheme.now.mmcs
+        scheme.now.fri_params.log_blowup batches.now v.items) }
+    ensures reason { IfErr result
+        (λ e. (e ≡ Memory) ⊎ IsFirstUncommitted scheme.now batches.now e) }
 {
     let mut committed = Vec::with_capacity(alloc, batches.len())?;
     for batch in batches {
@@ -458,10 +421,9 @@ fn commit_batch<'a>(
     traces: &'a [Trace],
 ) -> Result<Committed<'a>, ProverError>
     requires { All HasFittingRows traces.now }
-    ensures made { IfOk result (IsCommitted (⟦<ValMmcs as Mmcs<Val>>⟧.commits scheme.now.mmcs)
-        scheme.now.fri_params.log_blowup traces.now) }
-    ensures reason { let p = ⟦<Scheme as Pcs<Challenge, Challenger>>⟧ in IfErr result (λ e.
-        (e ≡ Memory) ⊎ IsUncommitted p.commit_refuses scheme.now traces.now e) }
+    ensures made { IfOk result
+        (IsCommitted scheme.now.mmcs scheme.now.fri_params.log_blowup traces.now) }
+    ensures reason { IfErr result (λ e. (e ≡ Memory) ⊎ IsUncommitted scheme.now traces.now e) }
 {
     let (commitment, kept) = scheme.commit(alloc, evaluations(alloc, traces)?)?;
     Ok(Committed {
@@ -503,8 +465,7 @@ fn requests<'a>(
     alloc: Global,
     committed: &'a [Committed<'a>],
 ) -> Result<Vec<Request<'a>>, AllocError>
-    ensures { IfOk result (λ v. AllZip (IsRequested ⟦<ValMmcs as Mmcs<Val>>⟧.matrices)
-        committed.now v.items) }
+    ensures { IfOk result (λ v. AllZip IsRequested committed.now v.items) }
 {
     let mut requests = Vec::with_capacity(alloc, committed.len())?;
     for batch in committed {

@@ -2,6 +2,7 @@
 ghost use Rattle.std.specs.Prelude.{◌≡◌, ◌≤◌, ◌↔◌, Err, IfSome, IsSome, Ok};
 ghost use Rattle.circle_commands.specs.Answer.{IsAnswer};
 ghost use Rattle.circle_commands.specs.Arguments.{Names, NamesCommand};
+ghost use Rattle.circle_commands.specs.Commands.{Answers, prove, shape, values, verify};
 ghost use Rattle.circle_commands.specs.Program.{HasRun, IsOfInput, IsTold, IsWritten};
 ghost use Rattle.circle_commands.specs.declared.failure.Failure.TheVariants.{Usage};
 ghost use Rattle.circle_commands.specs.declared.run.CommandName.TheVariants as names;
@@ -52,17 +53,13 @@ pub fn run<R: Read, W: Write>(alloc: Global, args: &[String], input: &mut R, out
     ensures usage { ¬ NamesCommand args.now
         → IsTold (Err Usage) (W.contents output.old) (W.contents output.new) result }
     ensures unread { ¬ NamesCommand args.now → input.new ≡ input.old }
-    ensures values { let c = ⟦<values::Input as Command>⟧ in Names args.now names.Values
-        → HasRun (IsAnswer c.form c.is_result c.is_reason) (R.remaining input.old)
+    ensures values { Names args.now names.Values → HasRun (Answers values) (R.remaining input.old)
         (R.remaining input.new) (W.contents output.old) (W.contents output.new) result }
-    ensures prove { let c = ⟦<prove::Input as Command>⟧ in Names args.now names.Prove
-        → HasRun (IsAnswer c.form c.is_result c.is_reason) (R.remaining input.old)
+    ensures prove { Names args.now names.Prove → HasRun (Answers prove) (R.remaining input.old)
         (R.remaining input.new) (W.contents output.old) (W.contents output.new) result }
-    ensures verify { let c = ⟦<verify::Input as Command>⟧ in Names args.now names.Verify
-        → HasRun (IsAnswer c.form c.is_result c.is_reason) (R.remaining input.old)
+    ensures verify { Names args.now names.Verify → HasRun (Answers verify) (R.remaining input.old)
         (R.remaining input.new) (W.contents output.old) (W.contents output.new) result }
-    ensures shape { let c = ⟦<shape::Input as Command>⟧ in Names args.now names.Shape
-        → HasRun (IsAnswer c.form c.is_result c.is_reason) (R.remaining input.old)
+    ensures shape { Names args.now names.Shape → HasRun (Answers shape) (R.remaining input.old)
         (R.remaining input.new) (W.contents output.old) (W.contents output.new) result }
 {
     match CommandName::from_args(args) {
@@ -79,17 +76,13 @@ fn run_named<R: Read, W: Write>(
     output: &mut W,
 ) -> u8
     ensures status { result ≤ 2 }
-    ensures values { let c = ⟦<values::Input as Command>⟧ in name ≡ names.Values
-        → HasRun (IsAnswer c.form c.is_result c.is_reason) (R.remaining input.old)
+    ensures values { name ≡ names.Values → HasRun (Answers values) (R.remaining input.old)
         (R.remaining input.new) (W.contents output.old) (W.contents output.new) result }
-    ensures prove { let c = ⟦<prove::Input as Command>⟧ in name ≡ names.Prove
-        → HasRun (IsAnswer c.form c.is_result c.is_reason) (R.remaining input.old)
+    ensures prove { name ≡ names.Prove → HasRun (Answers prove) (R.remaining input.old)
         (R.remaining input.new) (W.contents output.old) (W.contents output.new) result }
-    ensures verify { let c = ⟦<verify::Input as Command>⟧ in name ≡ names.Verify
-        → HasRun (IsAnswer c.form c.is_result c.is_reason) (R.remaining input.old)
+    ensures verify { name ≡ names.Verify → HasRun (Answers verify) (R.remaining input.old)
         (R.remaining input.new) (W.contents output.old) (W.contents output.new) result }
-    ensures shape { let c = ⟦<shape::Input as Command>⟧ in name ≡ names.Shape
-        → HasRun (IsAnswer c.form c.is_result c.is_reason) (R.remaining input.old)
+    ensures shape { name ≡ names.Shape → HasRun (Answers shape) (R.remaining input.old)
         (R.remaining input.new) (W.contents output.old) (W.contents output.new) result }
 {
     match name {

@@ -4,14 +4,14 @@ ghost use Rattle.std.specs.Prelude.{◌≡◌, ◌≤◌, ◌↔◌, IfOk, IfErr
 ghost use Rattle.serde_json.specs.View.{view};
 ghost use Rattle.circle_transcript.specs.ShapeOf.{shape_of};
 ghost use Rattle.circle_commands.specs.Named.{shape_name};
-ghost use Rattle.circle_commands.specs.Shape.{HasRoom, shape_object, shape_of_input};
+ghost use Rattle.circle_commands.specs.Shape.{HasRoom, degree, shape_object, shape_of_input};
 ghost use Rattle.circle_commands.specs.Shape.{shape_written};
 
 use crate::command::Command;
 use crate::failure::Failure;
 use crate::json;
 use circle_commit::FriParameters;
-use circle_field::{Cubic, ExtensionField, Mersenne31};
+use circle_field::{Cubic, Mersenne31};
 use circle_json::{JsonError, has_keys, member};
 use circle_transcript::CirclePcsShape;
 use serde_json::{Value, json};
@@ -57,16 +57,16 @@ impl Refusal {
 
 /// An object of `log_max_height`, the `opened_widths` and the `params`.
 impl Command for Input {
-    ghost use Rattle.circle_json.specs.ObjectForm.{object_form};
     ghost use Rattle.circle_transcript.specs.ShapeOf.{shape_of};
     ghost use Rattle.circle_commands.specs.Reasons.{IsShapeReason};
-    ghost use Rattle.circle_commands.specs.Shape.{input_fields, shape_of_input, shape_written};
+    ghost use Rattle.circle_commands.specs.Shape.{degree, shape_form, shape_of_input};
+    ghost use Rattle.circle_commands.specs.Shape.{shape_written};
     ghost use Rattle.circle_commands.specs.Text.{IsJsonLine};
 
-    ghost form = { object_form input_fields };
+    ghost form = { shape_form };
 
-    ghost is_result = { λ input. IsJsonLine (shape_written
-        ⟦<Cubic as ExtensionField<Mersenne31>>⟧.DEGREE (shape_of (shape_of_input input))) };
+    ghost is_result = { λ input.
+        IsJsonLine (shape_written degree (shape_of (shape_of_input input))) };
 
     ghost is_reason = { IsShapeReason };
 
@@ -118,8 +118,7 @@ pub fn shape(input: Input) -> Result<CirclePcsShape, Refusal>
 // The object of a shape's numbers and digits.
 fn shown(alloc: Global, shape: &CirclePcsShape) -> Result<Value, AllocError>
     requires final_poly { shape.now.log_final_poly_len ≤ 63 }
-    ensures { IfOk result (λ value. view value ≡ shape_written
-        ⟦<Cubic as ExtensionField<Mersenne31>>⟧.DEGREE (shape_of shape.now)) }
+    ensures { IfOk result (λ value. view value ≡ shape_written degree (shape_of shape.now)) }
 {
     let separator = shape.domain_separator::<Mersenne31, Cubic>(alloc)?;
     let layout = hex::encode(alloc, separator.labels()[1].as_slice())?;

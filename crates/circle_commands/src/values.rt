@@ -84,13 +84,12 @@ impl From<AllocError> for Refusal {
 /// An object of the `coefficients`, `log_n` and the `shift`, an array of its two coordinates.
 impl Command for Input {
     ghost use Rattle.std.specs.Prelude.{List, ℕ};
-    ghost use Rattle.circle_json.specs.ObjectForm.{object_form};
-    ghost use Rattle.circle_commands.specs.Input.{input_fields, values_of};
+    ghost use Rattle.circle_commands.specs.Input.{values_form, values_of};
     ghost use Rattle.circle_commands.specs.Json.{rows_written};
     ghost use Rattle.circle_commands.specs.Reasons.{IsValuesReason};
     ghost use Rattle.circle_commands.specs.Text.{IsJsonLine};
 
-    ghost form = { object_form (input_fields ⟦<Vec<Vec<Mersenne31>> as JsonForm>⟧.form) };
+    ghost form = { values_form };
 
     ghost is_result = { λ input. IsJsonLine (rows_written (values_of input)) };
 

@@ -2,12 +2,11 @@
 
 ghost use Rattle.std.specs.Prelude.{◌≡◌, ◌⊎◌, ℕ, List, IfOk, IfErr, OnOk};
 ghost use Rattle.circle_challenger.specs.Sha256Challenger.{state_of};
-ghost use Rattle.circle_json.specs.ObjectForm.{object_form};
 ghost use Rattle.circle_commit.specs.declared.error.FriError.TheVariants.{Memory};
 ghost use Rattle.circle_relation.specs.StatementOf.{batch_claim, batch_claims};
 ghost use Rattle.circle_commands.specs.Verified.{IsVerified, IsVerifiedFrom, batch_told};
 ghost use Rattle.circle_commands.specs.Verified.{IsUnverified, IsUnverifiedFrom, batches_told};
-ghost use Rattle.circle_commands.specs.Verify.{input_fields};
+ghost use Rattle.circle_commands.specs.Verify.{claims_form};
 
 use crate::command::{Command, CommandFrom};
 use crate::commitments::{HasCommitment, observe_commitments};
@@ -15,10 +14,9 @@ use crate::failure::Failure;
 use circle_commit::{CommitmentOpening, FriParameters, MatrixOpening};
 use circle_json::{JsonError, JsonForm, has_keys, member};
 use circle_presets::{
-    Challenge, ChallengeMmcs, Challenger, Claim, ClaimOn, Commitment, Proof, Scheme, Val, ValMmcs,
+    ChallengeMmcs, Challenger, Claim, ClaimOn, Commitment, Proof, Scheme, ValMmcs,
 };
-use circle_prover::OpeningOver;
-use p3_circle::{CircleDomain, Neutral, Pcs, Point};
+use p3_circle::{CircleDomain, Neutral, Point};
 use serde_json::{Value, json};
 use std::alloc::{AllocError, Global};
 
@@ -49,9 +47,7 @@ impl HasCommitment for ClaimOn<usize> {
 
 /// An object of the `batches`, the `params` and the `proof`.
 impl JsonForm for Input {
-    ghost form = { object_form (input_fields (λ i. i.proof)
-        ⟦<Vec<ClaimOn<usize>> as JsonForm>⟧.form ⟦<FriParameters<()> as JsonForm>⟧.form
-        ⟦<Proof as JsonForm>⟧.form) };
+    ghost form = { claims_form };
 
     fn to_json(&self, alloc: Global) -> Result<Value, AllocError> {
         json!(in alloc; {
@@ -76,15 +72,11 @@ impl Command for Input {
     ghost use Rattle.circle_commands.specs.Reasons.{IsVerifyReason};
     ghost use Rattle.circle_commands.specs.Verified.{IsVerified, verified_line};
 
-    ghost form = { ⟦<Input as JsonForm>⟧.form };
+    ghost form = { claims_form };
 
-    ghost is_result = { λ input line. IsVerified
-        ⟦<Challenger as OpeningOver<Val, Challenge, ValMmcs, ChallengeMmcs>>⟧.schemes input
-        × (line ≡ verified_line) };
+    ghost is_result = { λ input line. IsVerified input × (line ≡ verified_line) };
 
-    ghost is_reason = { IsVerifyReason
-        ⟦<Challenger as OpeningOver<Val, Challenge, ValMmcs, ChallengeMmcs>>⟧.schemes
-        (λ i. i.proof) ⟦<Scheme as Pcs<Challenge, Challenger>>⟧.verify_refuses };
+    ghost is_reason = { IsVerifyReason };
 
     fn read(alloc: Global, value: &Value) -> Result<Input, JsonError> {
         <Input as JsonForm>::from_json(alloc, value)
@@ -104,13 +96,10 @@ impl CommandFrom for Input {
     ghost use Rattle.circle_commands.specs.Reasons.{IsVerifyReasonFrom};
     ghost use Rattle.circle_commands.specs.Verified.{IsVerifiedFrom, verified_line};
 
-    ghost is_result_from = { λ input old new line. IsVerifiedFrom
-        ⟦<Challenger as OpeningOver<Val, Challenge, ValMmcs, ChallengeMmcs>>⟧.schemes input old new
-        × (line ≡ verified_line) };
+    ghost is_result_from = { λ input old new line.
+        IsVerifiedFrom input old new × (line ≡ verified_line) };
 
-    ghost is_reason_from = { IsVerifyReasonFrom
-        ⟦<Challenger as OpeningOver<Val, Challenge, ValMmcs, ChallengeMmcs>>⟧.schemes
-        (λ i. i.proof) ⟦<Scheme as Pcs<Challenge, Challenger>>⟧.verify_refuses };
+    ghost is_reason_from = { IsVerifyReasonFrom };
 
     /// The line `{"verified":true}`.
     ///
@@ -126,12 +115,9 @@ impl CommandFrom for Input {
 ///
 /// Fails as [`CirclePcs::verify`] does, and of a proof that is verified only when out of memory.
 pub fn verify(alloc: Global, input: Input) -> Result<(), Refusal>
-    ensures accepted { OnOk result (IsVerified
-        ⟦<Challenger as OpeningOver<Val, Challenge, ValMmcs, ChallengeMmcs>>⟧.schemes input) }
-    ensures complete { let o = ⟦<Challenger as OpeningOver<Val, Challenge, ValMmcs, ChallengeMmcs>>⟧
-        in IfErr result (λ e. IsVerified o.schemes input → e ≡ Memory) }
-    ensures reason { let p = ⟦<Scheme as Pcs<Challenge, Challenger>>⟧ in IfErr result
-        (λ e. (e ≡ Memory) ⊎ IsUnverified p.verify_refuses input.proof input e) }
+    ensures accepted { OnOk result (IsVerified input) }
+    ensures complete { IfErr result (λ e. IsVerified input → e ≡ Memory) }
+    ensures reason { IfErr result (λ e. (e ≡ Memory) ⊎ IsUnverified input e) }
 {
     let mut challenger = Challenger::new();
     observe_commitments(&mut challenger, &input.batches);
@@ -145,15 +131,12 @@ pub fn verify(alloc: Global, input: Input) -> Result<(), Refusal>
 /// Fails as [`CirclePcs::verify`] does, which says how the challenger is left then, and of a proof
 /// that is verified only when out of memory.
 pub fn verify_from(alloc: Global, input: Input, challenger: &mut Challenger) -> Result<(), Refusal>
-    ensures accepted { let o = ⟦<Challenger as OpeningOver<Val, Challenge, ValMmcs, ChallengeMmcs>>⟧
-        in OnOk result (IsVerifiedFrom o.schemes input (state_of challenger.old)
-        (state_of challenger.new)) }
-    ensures complete { let o = ⟦<Challenger as OpeningOver<Val, Challenge, ValMmcs, ChallengeMmcs>>⟧
-        in IfErr result (λ e. (left : List ℕ) → IsVerifiedFrom o.schemes input
-        (state_of challenger.old) left → e ≡ Memory) }
-    ensures reason { let p = ⟦<Scheme as Pcs<Challenge, Challenger>>⟧ in IfErr result
-        (λ e. (e ≡ Memory) ⊎ IsUnverifiedFrom p.verify_refuses input.proof input
-        (state_of challenger.old) (state_of challenger.new) e) }
+    ensures accepted { OnOk result
+        (IsVerifiedFrom input (state_of challenger.old) (state_of challenger.new)) }
+    ensures complete { IfErr result (λ e. (left : List ℕ)
+        → IsVerifiedFrom input (state_of challenger.old) left → e ≡ Memory) }
+    ensures reason { let s = state_of in IfErr result
+        (λ e. (e ≡ Memory) ⊎ IsUnverifiedFrom input (s challenger.old) (s challenger.new) e) }
 {
     let Input {
         batches,

@@ -2,17 +2,17 @@
 use Rattle.std.proofs.Common.{arith}
 use Rattle.circle_air.specs.declared.node.Node.TheVariants.{Local, Next, Periodic, Public}
 use Rattle.circle_air.specs.declared.node.Node.TheVariants.{Constant, Add, Sub, Mul, Neg}
-use Rattle.circle_commands.proofs.Depth.{IsWithin, base, base_form, count, digest, digest_form}
-use Rattle.circle_commands.proofs.Depth.{digests_form, element, element_form, list, more, object}
-use Rattle.circle_commands.proofs.Depth.{parameters, proof}
+use Rattle.circle_commands.proofs.Depth.{IsWithin, base, count, digest, element, list, more}
+use Rattle.circle_commands.proofs.Depth.{object, parameters, proof}
+use Rattle.circle_commands.specs.Forms.{base_form, digest_form, digests_form, element_form}
+use Rattle.circle_commands.specs.Forms.{row_form}
 use Rattle.circle_json.specs.Airs.{constraint_fields, node_form, parts_fields, place_form}
 use Rattle.circle_json.specs.Claims.{parameters_form}
-use Rattle.circle_json.specs.Form.{Form, count_form, list_form}
+use Rattle.circle_json.specs.Form.{count_form, list_form}
 use Rattle.circle_json.specs.ObjectForm.{object_form}
 use Rattle.circle_stark.specs.Json.{stark_fields, value_fields}
-use Rattle.stark_commands.proofs.Given.{air_form, row_form}
-use Rattle.stark_commands.specs.Verify.{input_fields}
-use Rattle.stark_commands.specs.declared.verify.Input.{Input}
+use Rattle.stark_commands.specs.Forms.{air_form}
+use Rattle.stark_commands.specs.Verify.{claim_form, input_fields}
 
 node : IsWithin (node_form base_form) 2
 node (Local c) = omega arith
@@ -57,22 +57,9 @@ values =
       ),
     )
 
--- the form of a claim
-abbrev pub claim_form : Form Input
-claim_form =
-    object_form
-    (input_fields (λ i. i.proof) air_form parameters_form
-    (object_form
-    (stark_fields base_form element_form digest_form digests_form digest_form digests_form))
-    row_form)
-
 pub claim : IsWithin claim_form 10
 claim =
-    object
-    (input_fields (λ i. i.proof) air_form parameters_form
-    (object_form
-    (stark_fields base_form element_form digest_form digests_form digest_form digests_form))
-    row_form) 9 (
+    object input_fields 9 (
       more air_form 4 air 9 (omega arith),
       (
         more count_form 0 count 9 (omega arith),

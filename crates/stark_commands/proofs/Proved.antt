@@ -7,7 +7,6 @@ use Rattle.circle_air.specs.Degrees.{IsLogOfChunks, degree_of_parts}
 use Rattle.circle_air.specs.Parts.{Parts, parts_of}
 use Rattle.circle_air.specs.Refusal.{refusal}
 use Rattle.circle_air.specs.Satisfies.{Satisfies}
-use Rattle.circle_challenger.specs.declared.sha256.Sha256Challenger.{Sha256Challenger}
 use Rattle.circle_codewords.specs.Requests.{log_of}
 use Rattle.circle_commands.proofs.Rows.{length-lists}
 use Rattle.circle_commands.specs.Rows.{lists, IsRectangular}
@@ -18,18 +17,16 @@ use Rattle.circle_field.specs.Mersenne31.{operations}
 use Rattle.circle_field.specs.declared.cubic.Cubic.{Cubic}
 use Rattle.circle_field.specs.declared.mersenne31.Mersenne31.{Mersenne31}
 use Rattle.circle_merkle.specs.declared.mmcs.ShaMmcs.{ShaMmcs}
-use Rattle.circle_prover.specs.Schemes.{Schemes}
 use Rattle.circle_stark.specs.Statement.{Statement}
 use Rattle.circle_stark.specs.declared.error.StarkProverError.{StarkProverError}
 use Rattle.circle_stark.specs.declared.error.StarkProverError.TheVariants as prover
-use Rattle.circle_stark.specs.declared.trace.StarkTrace.{StarkTrace}
 use Rattle.stark_commands.proofs.Verified.{Accepts, verified, verified-new}
 use Rattle.stark_commands.specs.Proved.{AreFittingRows, HasAir, IsFitting, IsProved, IsProvedFrom}
 use Rattle.stark_commands.specs.Proved.{IsRefusalOfRows, IsRefusedByProver, IsTooLarge}
 use Rattle.stark_commands.specs.Proved.{IsUnproved, IsUnprovedBy, IsUnprovedFrom, parts_given}
 use Rattle.stark_commands.specs.Proved.{rows_given, statement_proved}
 use Rattle.stark_commands.specs.Refused.{IsRefusalOfTrace}
-use Rattle.stark_commands.specs.Verified.{Scheme, statement_given}
+use Rattle.stark_commands.specs.Verified.{statement_given}
 use Rattle.stark_commands.specs.declared.prove.Input.{Input}
 use Rattle.stark_commands.specs.declared.prove.Refusal.{Refusal}
 use Rattle.stark_commands.specs.declared.prove.Refusal.TheVariants.{Air, RaggedRows}
@@ -115,19 +112,14 @@ unproved_by Refuses Other input then (Prover error) h = (h.0, then error h.1)
 unproved_by Refuses Other input then Memory h = absurd h
 
 -- what is refused from a new challenger
-pub unproved-new : (Unproved : Scheme → StarkTrace Mersenne31 → Sha256Challenger →
-    Sha256Challenger → StarkProverError → Type 0) (input : Input) (old new : List ℕ) →
-    old ≡ replicate 32 0 → (e : Refusal) →
-    (e ≡ Memory) ⊎ IsUnprovedFrom Unproved input old new e →
-    (e ≡ Memory) ⊎ IsUnproved Unproved input e
-unproved-new Unproved input old new begun e refused =
+pub unproved-new : (input : Input) (old new : List ℕ) → old ≡ replicate 32 0 → (e : Refusal) →
+    (e ≡ Memory) ⊎ IsUnprovedFrom input old new e → (e ≡ Memory) ⊎ IsUnproved input e
+unproved-new input old new begun e refused =
     ⊎_elim (λ none. inl none)
-    (λ u. inr (unproved_by (IsRefusedByProver Unproved input old new)
-    (λ error. (left : List ℕ) × IsRefusedByProver Unproved input (replicate 32 0) left error) input
-    (λ error r. (
-      new,
-      subst (λ (s : List ℕ). IsRefusedByProver Unproved input s new error) begun r,
-    )) e u)) refused
+    (λ u. inr (unproved_by (IsRefusedByProver input old new)
+    (λ error. (left : List ℕ) × IsRefusedByProver input (replicate 32 0) left error) input
+    (λ error r. (new, subst (λ (s : List ℕ). IsRefusedByProver input s new error) begun r)) e u))
+    refused
 
 module _ (input : Input) where
   -- the AIR's logarithm of the number of chunks is that of its parts
@@ -180,10 +172,7 @@ claimed claim parts height public air log given =
     same_statement parts (parts_of claim.air) (log_of height) claim.log_n public
     claim.public_values.items (sym air) (sym log) given
 
-module _ {D WD : Type 0}
-    (o : Schemes Sha256Challenger (List ℕ) Mersenne31 Cubic (ShaMmcs Mersenne31) (List ℕ) D
-    (Vec (List ℕ) Global) (ShaMmcs Cubic) (List ℕ) WD (Vec (List ℕ) Global)) (input : Input)
-    (claim : Claim) where
+module _ (input : Input) (claim : Claim) where
   -- the claim of what is proved of the input's rows
   pub proved : (s : Statement Mersenne31) (rows : List (List Mersenne31))
       (mmcs : ShaMmcs Mersenne31) (scheme : ShaMmcs Cubic)
@@ -193,7 +182,7 @@ module _ {D WD : Type 0}
       length (rows_given input) ≡ 2 ^ claim.log_n →
       params ≡ with_scheme claim.params scheme → HasAir input →
       Satisfies operations s.parts rows s.public_values →
-      Accepts o claim mmcs params s old new → IsProvedFrom o input claim old new
+      Accepts claim mmcs params s old new → IsProvedFrom input claim old new
   proved s rows mmcs scheme params old new is claimed given same public height with air holds
       accepts =
       let parts : parts_of claim.air ≡ parts_given input =
@@ -211,14 +200,14 @@ module _ {D WD : Type 0}
                   s.public_values) given holds);
             };
         verified =
-            verified o claim s mmcs scheme params old new claimed with
+            verified claim s mmcs scheme params old new claimed with
             (subst (λ (p : Parts Mersenne31). refusal p ≡ None) (sym parts) air) accepts;
       }
 
   -- so from a new challenger
-  pub proved-new : (old new : List ℕ) → old ≡ replicate 32 0 → IsProvedFrom o input claim old new →
-      IsProved o input claim
+  pub proved-new : (old new : List ℕ) → old ≡ replicate 32 0 → IsProvedFrom input claim old new →
+      IsProved input claim
   proved-new old new begun is = record {
     claims = is.claims;
-    verified = verified-new o claim old new begun is.verified;
+    verified = verified-new claim old new begun is.verified;
   }

@@ -1,24 +1,22 @@
 -- What the command `verify` hands to the verifier.
-use Rattle.std.proofs.Common.{◌≡◌, ℕ, ◌⊎◌, ⊎_elim, List, Vec, Global, ap, inl, inr}
+use Rattle.std.proofs.Common.{◌≡◌, ℕ, ◌⊎◌, ⊎_elim, List, ap, inl, inr}
 use Rattle.std.proofs.Common.{replicate, subst, sym, ◌∙◌}
 use Rattle.circle_air.specs.Parts.{Parts, parts_of}
-use Rattle.circle_challenger.specs.declared.sha256.Sha256Challenger.{Sha256Challenger}
 use Rattle.circle_commands.proofs.Verified.{one_scheme}
+use Rattle.circle_commands.specs.Chosen.{preset}
 use Rattle.circle_commit.specs.Parameters.{with_scheme}
 use Rattle.circle_commit.specs.declared.params.FriParameters.{FriParameters}
 use Rattle.circle_field.specs.declared.cubic.Cubic.{Cubic}
 use Rattle.circle_field.specs.declared.mersenne31.Mersenne31.{Mersenne31}
 use Rattle.circle_merkle.specs.declared.mmcs.ShaMmcs.{ShaMmcs}
-use Rattle.circle_prover.specs.Schemes.{Schemes}
 use Rattle.circle_stark.specs.Accepts.{StarkAccepts}
 use Rattle.circle_stark.specs.Statement.{Statement, proved_of}
 use Rattle.circle_stark.specs.declared.error.StarkError.TheVariants as stark
-use Rattle.circle_stark.specs.declared.proof.StarkStatement.{StarkStatement}
+use Rattle.stark_commands.specs.Preset.{ProofError}
 use Rattle.stark_commands.specs.Reasons.{IsUnverifiedBy, IsVerifyRefusal, IsVerifyRefusalFrom}
-use Rattle.stark_commands.specs.Reasons.{ProofError}
 use Rattle.stark_commands.specs.Refused.{IsRefusalOfProof}
 use Rattle.stark_commands.specs.Verified.{HasAir, IsAcceptedFrom, IsUnverified, IsUnverifiedFrom}
-use Rattle.stark_commands.specs.Verified.{IsVerified, IsVerifiedFrom, Scheme, described}
+use Rattle.stark_commands.specs.Verified.{IsVerified, IsVerifiedFrom, described}
 use Rattle.stark_commands.specs.Verified.{statement_given}
 use Rattle.stark_commands.specs.declared.verify.Input.{Input}
 use Rattle.stark_commands.specs.declared.verify.Refusal.{Refusal}
@@ -40,50 +38,48 @@ stated input parts public same given =
     ap (λ (p : Parts Mersenne31). stated_by input p public) same
     ∙ ap (λ (v : List Mersenne31). stated_by input (parts_of input.air) v) given
 
-module _ {D WD : Type 0}
-    (o : Schemes Sha256Challenger (List ℕ) Mersenne31 Cubic (ShaMmcs Mersenne31) (List ℕ) D
-    (Vec (List ℕ) Global) (ShaMmcs Cubic) (List ℕ) WD (Vec (List ℕ) Global)) (input : Input)
-  where
-    abbrev pub Accepts : ShaMmcs Mersenne31 → FriParameters (ShaMmcs Cubic) →
-        Statement Mersenne31 → List ℕ → List ℕ → Type 0
-    Accepts mmcs params s old new =
-        StarkAccepts o.fields params o.run o.run (o.authenticates mmcs)
-        (o.word_authenticates params.mmcs) (described s) s (proved_of input.proof) old new
+module _ (input : Input) where
+  abbrev pub Accepts : ShaMmcs Mersenne31 → FriParameters (ShaMmcs Cubic) → Statement Mersenne31 →
+      List ℕ → List ℕ → Type 0
+  Accepts mmcs params s old new =
+      StarkAccepts preset.schemes.fields params preset.schemes.run preset.schemes.run
+      (preset.schemes.authenticates mmcs) (preset.schemes.word_authenticates params.mmcs)
+      (described s) s (proved_of input.proof) old new
 
-    module _ (s : Statement Mersenne31) (mmcs : ShaMmcs Mersenne31) (scheme : ShaMmcs Cubic)
-        (params : FriParameters (ShaMmcs Cubic)) (old new : List ℕ) (is : s ≡ statement_given input)
-        (same : params ≡ with_scheme input.params scheme) where
-      -- what is accepted of the input's statement under its parameters is verified
-      pub verified : HasAir input → Accepts mmcs params s old new → IsVerifiedFrom o input old new
-      verified air a = record {
-        air = air;
-        mmcs = mmcs;
-        scheme = scheme;
-        accepts =
-            subst (λ t. Accepts mmcs (with_scheme input.params scheme) t old new) is
-            (subst (λ p. Accepts mmcs p s old new) same a);
-      }
+  module _ (s : Statement Mersenne31) (mmcs : ShaMmcs Mersenne31) (scheme : ShaMmcs Cubic)
+      (params : FriParameters (ShaMmcs Cubic)) (old new : List ℕ) (is : s ≡ statement_given input)
+      (same : params ≡ with_scheme input.params scheme) where
+    -- what is accepted of the input's statement under its parameters is verified
+    pub verified : HasAir input → Accepts mmcs params s old new → IsVerifiedFrom input old new
+    verified air a = record {
+      air = air;
+      mmcs = mmcs;
+      scheme = scheme;
+      accepts =
+          subst (λ t. Accepts mmcs (with_scheme input.params scheme) t old new) is
+          (subst (λ p. Accepts mmcs p s old new) same a);
+    }
 
-      -- what is verified is accepted
-      pub accepted : IsVerifiedFrom o input old new → Accepts mmcs params s old new
-      accepted v =
-          let of_schemes =
-          subst
-          (λ m. Accepts m (with_scheme input.params v.scheme) (statement_given input) old new)
-          (one_scheme v.mmcs mmcs) v.accepts in
-          let of_params =
-          subst (λ p. Accepts mmcs p (statement_given input) old new)
-          (ap (with_scheme input.params) (one_scheme v.scheme scheme) ∙ sym same) of_schemes in
-          subst (λ t. Accepts mmcs params t old new) (sym is) of_params
+    -- what is verified is accepted
+    pub accepted : IsVerifiedFrom input old new → Accepts mmcs params s old new
+    accepted v =
+        let of_schemes =
+        subst
+        (λ m. Accepts m (with_scheme input.params v.scheme) (statement_given input) old new)
+        (one_scheme v.mmcs mmcs) v.accepts in
+        let of_params =
+        subst (λ p. Accepts mmcs p (statement_given input) old new)
+        (ap (with_scheme input.params) (one_scheme v.scheme scheme) ∙ sym same) of_schemes in
+        subst (λ t. Accepts mmcs params t old new) (sym is) of_params
 
-    -- what is verified from a new challenger
-    pub verified-new : (old new : List ℕ) → old ≡ replicate 32 0 → IsVerifiedFrom o input old new →
-        IsVerified o input
-    verified-new old new begun v = subst (IsAcceptedFrom o input) begun (new, v)
+  -- what is verified from a new challenger
+  pub verified-new : (old new : List ℕ) → old ≡ replicate 32 0 → IsVerifiedFrom input old new →
+      IsVerified input
+  verified-new old new begun v = subst (IsAcceptedFrom input) begun (new, v)
 
-    pub accepted-new : (old : List ℕ) → old ≡ replicate 32 0 → IsVerified o input →
-        IsAcceptedFrom o input old
-    accepted-new old begun v = subst (IsAcceptedFrom o input) (sym begun) v
+  pub accepted-new : (old : List ℕ) → old ≡ replicate 32 0 → IsVerified input →
+      IsAcceptedFrom input old
+  accepted-new old begun v = subst (IsAcceptedFrom input) (sym begun) v
 
 -- a refused proof is a refused input, but where it is memory that is refused
 pub never_of_verified : (V : Type 0) (error : ProofError) (reason : Refusal) →
@@ -109,23 +105,12 @@ unverified_by V W Refuses Other input back then (Proof error) h =
     (h.0, (λ w. h.1.0 (back w), (h.1.1.0, then error h.1.1.1)))
 unverified_by V W Refuses Other input back then Memory h = absurd h
 
-module _ {D WD : Type 0}
-    (o : Schemes Sha256Challenger (List ℕ) Mersenne31 Cubic (ShaMmcs Mersenne31) (List ℕ) D
-    (Vec (List ℕ) Global) (ShaMmcs Cubic) (List ℕ) WD (Vec (List ℕ) Global)) {P : Type 0}
-    (part : Input → P)
-    (Refuses : Scheme → StarkStatement Mersenne31 → P → Sha256Challenger → Sha256Challenger →
-    ProofError → Type 0) (input : Input)
-  where
-    -- what is refused from a new challenger
-    pub unverified-new : (old new : List ℕ) → old ≡ replicate 32 0 → (e : Refusal) →
-        (e ≡ Memory) ⊎ IsVerifyRefusalFrom o part Refuses input old new e →
-        (e ≡ Memory) ⊎ IsVerifyRefusal o part Refuses input e
-    unverified-new old new begun e refused =
-        ⊎_elim (λ none. inl none)
-        (λ u. inr (unverified_by (IsAcceptedFrom o input old) (IsVerified o input)
-        (IsUnverifiedFrom Refuses (part input) input old new)
-        (IsUnverified Refuses (part input) input) input (accepted-new o input old begun)
-        (λ error r. (
-          new,
-          subst (λ (s : List ℕ). IsUnverifiedFrom Refuses (part input) input s new error) begun r,
-        )) e u)) refused
+-- what is refused from a new challenger
+pub unverified-new : (input : Input) (old new : List ℕ) → old ≡ replicate 32 0 → (e : Refusal) →
+    (e ≡ Memory) ⊎ IsVerifyRefusalFrom input old new e → (e ≡ Memory) ⊎ IsVerifyRefusal input e
+unverified-new input old new begun e refused =
+    ⊎_elim (λ none. inl none)
+    (λ u. inr (unverified_by (IsAcceptedFrom input old) (IsVerified input)
+    (IsUnverifiedFrom input old new) (IsUnverified input) input (accepted-new input old begun)
+    (λ error r. (new, subst (λ (s : List ℕ). IsUnverifiedFrom input s new error) begun r)) e u))
+    refused

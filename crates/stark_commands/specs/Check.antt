@@ -1,12 +1,11 @@
 -- What the command `check` is given, when rows satisfy an AIR, and why an input is refused.
-use Rattle.std.specs.Prelude.{◌≡◌, ℕ, ◌≤◌, List, All, length, Option, Some, None, Vec, codes}
+use Rattle.std.specs.Prelude.{◌≡◌, ℕ, ◌≤◌, List, All, length, Option, Some, None, codes}
 use Rattle.std.specs.Prelude.{⊤}
 use Rattle.std.proofs.Common.{ap}
-use Rattle.std.specs.declared.alloc.Global.{Global}
-use Rattle.circle_air.specs.declared.parts.AirParts.{AirParts}
 use Rattle.circle_air.specs.Parts.{Parts, parts_of}
 use Rattle.circle_air.specs.Refusal.{refusal}
 use Rattle.circle_air.specs.Satisfies.{IsFirstViolation, Satisfies}
+use Rattle.circle_commands.specs.Forms.{row_form, rows_form}
 use Rattle.circle_commands.specs.Rows.{lists, IsRectangular, row_length}
 use Rattle.circle_commit.specs.Matrix.{IsPowerOfTwo}
 use Rattle.circle_commit.specs.declared.params.FriParameters.{FriParameters}
@@ -14,12 +13,14 @@ use Rattle.circle_field.specs.Mersenne31.{operations}
 use Rattle.circle_field.specs.declared.mersenne31.Mersenne31.{Mersenne31}
 use Rattle.circle_json.specs.declared.error.JsonError.{JsonError}
 use Rattle.circle_json.specs.declared.error.JsonError.TheVariants.{Memory as no_memory}
+use Rattle.circle_json.specs.Claims.{parameters_form}
 use Rattle.circle_json.specs.Form.{Form}
 use Rattle.circle_json.specs.ObjectForm.{fields_read_one, members_alike, object_form}
 use Rattle.circle_json.specs.Objects.{Fields, field, none_left, ReadsObject, RefusesObject}
 use Rattle.circle_json.specs.Objects.{SameFields, object_written}
 use Rattle.serde_json.specs.Data.{Data, object}
 use Rattle.serde_json.specs.Find.{get}
+use Rattle.stark_commands.specs.Forms.{air_form}
 use Rattle.stark_commands.specs.Options.{some_form}
 use Rattle.stark_commands.specs.declared.check.Input.{Input}
 use Rattle.stark_commands.specs.declared.check.Refusal.{Refusal}
@@ -101,74 +102,72 @@ satisfied_line = codes "{\"satisfied\":true}\n"
 abbrev pub params_member : Data → Option Data
 params_member value = get (codes "params") value
 
-module _ (parts : Form (AirParts Mersenne31)) (params : Form (FriParameters ⊤))
-    (elements : Form (Vec Mersenne31 Global)) (rows : Form (Vec (Vec Mersenne31 Global) Global))
-  where
-    -- the AIR, the public values and the rows
-    abbrev pub short_fields : Fields Input
-    short_fields =
-        field (codes "air") (λ i. i.air) parts
-        (field (codes "public_values") (λ i. i.public_values) elements
-        (field (codes "rows") (λ i. i.rows) rows
-        none_left))
+-- the AIR, the public values and the rows
+abbrev pub short_fields : Fields Input
+short_fields =
+    field (codes "air") (λ i. i.air) air_form
+    (field (codes "public_values") (λ i. i.public_values) row_form
+    (field (codes "rows") (λ i. i.rows) rows_form
+    none_left))
 
-    -- with the parameters
-    abbrev pub whole_fields : Fields Input
-    whole_fields =
-        field (codes "air") (λ i. i.air) parts
-        (field (codes "params") (λ i. i.params) (some_form params)
-        (field (codes "public_values") (λ i. i.public_values) elements
-        (field (codes "rows") (λ i. i.rows) rows
-        none_left)))
+-- with the parameters
+abbrev pub whole_fields : Fields Input
+whole_fields =
+    field (codes "air") (λ i. i.air) air_form
+    (field (codes "params") (λ i. i.params) (some_form parameters_form)
+    (field (codes "public_values") (λ i. i.public_values) row_form
+    (field (codes "rows") (λ i. i.rows) rows_form
+    none_left)))
 
-    abbrev pub ReadsInput : Option Data → Data → Input → Type 0
-    ReadsInput None value input = ReadsObject short_fields value input × (input.params ≡ None)
-    ReadsInput (Some _) value input = ReadsObject whole_fields value input
+abbrev pub ReadsInput : Option Data → Data → Input → Type 0
+ReadsInput None value input = ReadsObject short_fields value input × (input.params ≡ None)
+ReadsInput (Some _) value input = ReadsObject whole_fields value input
 
-    abbrev pub RefusesInput : Option Data → Data → JsonError → Type 0
-    RefusesInput None value error = RefusesObject short_fields value error
-    RefusesInput (Some _) value error = RefusesObject whole_fields value error
+abbrev pub RefusesInput : Option Data → Data → JsonError → Type 0
+RefusesInput None value error = RefusesObject short_fields value error
+RefusesInput (Some _) value error = RefusesObject whole_fields value error
 
-    abbrev pub input_written : Option (FriParameters ⊤) → Input → Data
-    input_written None input = object_written short_fields input
-    input_written (Some _) input = object_written whole_fields input
+abbrev pub input_written : Option (FriParameters ⊤) → Input → Data
+input_written None input = object_written short_fields input
+input_written (Some _) input = object_written whole_fields input
 
-    both_none : (x y : Option (FriParameters ⊤)) → x ≡ None → y ≡ None →
-        (some_form params).same x y
-    both_none None None p q = tt
-    both_none None (Some y) p q = absurd (cc)
-    both_none (Some x) y p q = absurd (cc)
+both_none : (x y : Option (FriParameters ⊤)) → x ≡ None → y ≡ None →
+    (some_form parameters_form).same x y
+both_none None None p q = tt
+both_none None (Some y) p q = absurd (cc)
+both_none (Some x) y p q = absurd (cc)
 
-    pub input_read_one : (at : Option Data) (value : Data) (x y : Input) → ReadsInput at value x →
-        ReadsInput at value y → SameFields whole_fields x y
-    input_read_one None value x y p q =
-        let same = fields_read_one short_fields value x y p.0.1 q.0.1 in
-        (same.0, (both_none x.params y.params p.1 q.1, same.1))
-    input_read_one (Some _) value x y p q = fields_read_one whole_fields value x y p.1 q.1
+pub input_read_one : (at : Option Data) (value : Data) (x y : Input) → ReadsInput at value x →
+    ReadsInput at value y → SameFields whole_fields x y
+input_read_one None value x y p q =
+    let same = fields_read_one short_fields value x y p.0.1 q.0.1 in
+    (same.0, (both_none x.params y.params p.1 q.1, same.1))
+input_read_one (Some _) value x y p q = fields_read_one whole_fields value x y p.1 q.1
 
-    pub input_alike : (m n : Option (FriParameters ⊤)) (x y : Input) → (some_form params).same m n →
-        SameFields whole_fields x y → input_written m x ≡ input_written n y
-    input_alike None None x y e same =
-        ap object (members_alike short_fields x y (same.0, same.1.1))
-    input_alike None (Some _) x y e same = absurd e
-    input_alike (Some _) None x y e same = absurd e
-    input_alike (Some _) (Some _) x y e same = ap object (members_alike whole_fields x y same)
+pub input_alike : (m n : Option (FriParameters ⊤)) (x y : Input) →
+    (some_form parameters_form).same m n → SameFields whole_fields x y →
+    input_written m x ≡ input_written n y
+input_alike None None x y e same =
+    ap object (members_alike short_fields x y (same.0, same.1.1))
+input_alike None (Some _) x y e same = absurd e
+input_alike (Some _) None x y e same = absurd e
+input_alike (Some _) (Some _) x y e same = ap object (members_alike whole_fields x y same)
 
-    pub input_refuse_others : (at : Option Data) (value : Data) (x : Input) (error : JsonError) →
-        ReadsInput at value x → RefusesInput at value error → error ≡ no_memory
-    input_refuse_others None value x error p r =
-        (object_form short_fields).refuses_others value x error p.0 r
-    input_refuse_others (Some _) value x error p r =
-        (object_form whole_fields).refuses_others value x error p r
+pub input_refuse_others : (at : Option Data) (value : Data) (x : Input) (error : JsonError) →
+    ReadsInput at value x → RefusesInput at value error → error ≡ no_memory
+input_refuse_others None value x error p r =
+    (object_form short_fields).refuses_others value x error p.0 r
+input_refuse_others (Some _) value x error p r =
+    (object_form whole_fields).refuses_others value x error p r
 
-    -- an object of the AIR, the public values, the rows and the parameters, which may be missing
-    abbrev pub input_form : Form Input
-    input_form = record {
-      same = SameFields whole_fields;
-      written = λ input. input_written input.params input;
-      reads = λ value input. ReadsInput (params_member value) value input;
-      refuses = λ value error. RefusesInput (params_member value) value error;
-      reads_one = λ value x y. input_read_one (params_member value) value x y;
-      writes_same = λ x y same. input_alike x.params y.params x y same.1.0 same;
-      refuses_others = λ value x error. input_refuse_others (params_member value) value x error;
-    }
+-- an object of the AIR, the public values, the rows and the parameters, which may be missing
+abbrev pub input_form : Form Input
+input_form = record {
+  same = SameFields whole_fields;
+  written = λ input. input_written input.params input;
+  reads = λ value input. ReadsInput (params_member value) value input;
+  refuses = λ value error. RefusesInput (params_member value) value error;
+  reads_one = λ value x y. input_read_one (params_member value) value x y;
+  writes_same = λ x y same. input_alike x.params y.params x y same.1.0 same;
+  refuses_others = λ value x error. input_refuse_others (params_member value) value x error;
+}

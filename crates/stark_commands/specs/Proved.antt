@@ -8,23 +8,22 @@ use Rattle.circle_air.specs.Satisfies.{Satisfies}
 use Rattle.circle_challenger.specs.Sha256Challenger.{state_of}
 use Rattle.circle_challenger.specs.declared.sha256.Sha256Challenger.{Sha256Challenger}
 use Rattle.circle_codewords.specs.Requests.{log_of}
+use Rattle.circle_commands.specs.Preset.{Scheme}
 use Rattle.circle_commands.specs.Rows.{lists, IsRectangular}
 use Rattle.circle_commands.specs.Text.{IsLineOf}
 use Rattle.circle_commit.specs.Matrix.{IsPowerOfTwo}
 use Rattle.circle_commit.specs.Parameters.{with_scheme}
 use Rattle.circle_commit.specs.RowMajorMatrix.{rows as rows_of}
 use Rattle.circle_field.specs.Mersenne31.{operations}
-use Rattle.circle_field.specs.declared.cubic.Cubic.{Cubic}
 use Rattle.circle_field.specs.declared.mersenne31.Mersenne31.{Mersenne31}
-use Rattle.circle_json.specs.Form.{Form}
-use Rattle.circle_merkle.specs.declared.mmcs.ShaMmcs.{ShaMmcs}
-use Rattle.circle_prover.specs.Schemes.{Schemes}
 use Rattle.circle_stark.specs.Statement.{Statement}
 use Rattle.circle_stark.specs.Trace.{stated}
 use Rattle.circle_stark.specs.declared.error.StarkProverError.{StarkProverError}
 use Rattle.circle_stark.specs.declared.error.StarkProverError.TheVariants.{Memory as OutOfMemory}
 use Rattle.circle_stark.specs.declared.trace.StarkTrace.{StarkTrace}
-use Rattle.stark_commands.specs.Verified.{IsVerified, IsVerifiedFrom, Scheme}
+use Rattle.stark_commands.specs.Chosen.{stark}
+use Rattle.stark_commands.specs.Verified.{IsVerified, IsVerifiedFrom}
+use Rattle.stark_commands.specs.Verify.{claim_form}
 use Rattle.stark_commands.specs.declared.prove.Input.{Input}
 use Rattle.stark_commands.specs.declared.prove.Refusal.{Refusal}
 use Rattle.stark_commands.specs.declared.prove.Refusal.TheVariants.{Air, RaggedRows}
@@ -96,9 +95,7 @@ IsFitting input = HasHeight input × (¬ IsLargeInput input)
 
 -- what the prover is handed is the input's, under its parameters and from a challenger in the one
 -- state, which it leaves in the other, and the prover refuses it for this reason
-pub record IsRefusedByProver
-    (Unproved : Scheme → StarkTrace Mersenne31 → Sha256Challenger → Sha256Challenger →
-    StarkProverError → Type 0) (input : Input) (old new : List ℕ) (error : StarkProverError)
+pub record IsRefusedByProver (input : Input) (old new : List ℕ) (error : StarkProverError)
     : Type 0 where
   pub scheme : Scheme
   pub trace : StarkTrace Mersenne31
@@ -110,7 +107,7 @@ pub record IsRefusedByProver
   pub begun : state_of start ≡ old
   pub ended : state_of left ≡ new
   pub reported : ¬ (error ≡ OutOfMemory)
-  pub refuses : Unproved scheme trace start left error
+  pub refuses : stark.Unproved scheme trace start left error
 
 -- why an input is refused, each where no earlier reason holds, where the prover refuses it by such
 -- errors
@@ -123,19 +120,16 @@ IsUnprovedBy Refuses input HeightTooLarge = HasHeight input × IsLargeInput inpu
 IsUnprovedBy Refuses input (Prover error) = IsFitting input × Refuses error
 IsUnprovedBy Refuses input Memory = ⊥
 
-module _ (Unproved : Scheme → StarkTrace Mersenne31 → Sha256Challenger → Sha256Challenger →
-    StarkProverError → Type 0) (input : Input)
-  where
-    -- from a challenger in the one state, which is left in the other
-    abbrev pub IsUnprovedFrom : List ℕ → List ℕ → Refusal → Type 0
-    IsUnprovedFrom old new = IsUnprovedBy (IsRefusedByProver Unproved input old new) input
+module _ (input : Input) where
+  -- from a challenger in the one state, which is left in the other
+  abbrev pub IsUnprovedFrom : List ℕ → List ℕ → Refusal → Type 0
+  IsUnprovedFrom old new = IsUnprovedBy (IsRefusedByProver input old new) input
 
-    -- and from a challenger that has absorbed nothing
-    abbrev pub IsUnproved : Refusal → Type 0
-    IsUnproved =
-        IsUnprovedBy
-        (λ error. (left : List ℕ) × IsRefusedByProver Unproved input (replicate 32 0) left error)
-        input
+  -- and from a challenger that has absorbed nothing
+  abbrev pub IsUnproved : Refusal → Type 0
+  IsUnproved =
+      IsUnprovedBy (λ error. (left : List ℕ) × IsRefusedByProver input (replicate 32 0) left error)
+      input
 
 -- the rows satisfy the AIR, and the claim is of their number, of this AIR, these parameters and
 -- public values
@@ -147,30 +141,25 @@ pub record IsClaimOf (input : Input) (claim : Claim) : Type 0 where
   pub satisfies :
       Satisfies operations (parts_given input) (rows_given input) input.public_values.items
 
-module _ {D WD : Type 0}
-    (o : Schemes Sha256Challenger (List ℕ) Mersenne31 Cubic (ShaMmcs Mersenne31) (List ℕ) D
-    (Vec (List ℕ) Global) (ShaMmcs Cubic) (List ℕ) WD (Vec (List ℕ) Global))
-  where
-    module _ (input : Input) where
-      -- the rows satisfy the AIR, and the claim is of them, with a proof that the verifier accepts
-      -- from a challenger in the one state, and leaves it in the other
-      pub record IsProvedFrom (claim : Claim) (old new : List ℕ) : Type 0 where
-        pub claims : IsClaimOf input claim
-        pub verified : IsVerifiedFrom o claim old new
+module _ (input : Input) where
+  -- the rows satisfy the AIR, and the claim is of them, with a proof that the verifier accepts from
+  -- a challenger in the one state, and leaves it in the other
+  pub record IsProvedFrom (claim : Claim) (old new : List ℕ) : Type 0 where
+    pub claims : IsClaimOf input claim
+    pub verified : IsVerifiedFrom claim old new
 
-      -- and from a challenger that has absorbed nothing
-      pub record IsProved (claim : Claim) : Type 0 where
-        pub claims : IsClaimOf input claim
-        pub verified : IsVerified o claim
+  -- and from a challenger that has absorbed nothing
+  pub record IsProved (claim : Claim) : Type 0 where
+    pub claims : IsClaimOf input claim
+    pub verified : IsVerified claim
 
-    module _ (form : Form Claim) (input : Input) where
-      -- the line is that of such a claim
-      pub record IsProofLine (line : List ℕ) : Type 0 where
-        pub claim : Claim
-        pub written : IsLineOf form claim line
-        pub proved : IsProved input claim
+  -- the line is that of such a claim
+  pub record IsProofLine (line : List ℕ) : Type 0 where
+    pub claim : Claim
+    pub written : IsLineOf claim_form claim line
+    pub proved : IsProved claim
 
-      pub record IsProofLineFrom (old new line : List ℕ) : Type 0 where
-        pub claim : Claim
-        pub written : IsLineOf form claim line
-        pub proved : IsProvedFrom input claim old new
+  pub record IsProofLineFrom (old new line : List ℕ) : Type 0 where
+    pub claim : Claim
+    pub written : IsLineOf claim_form claim line
+    pub proved : IsProvedFrom claim old new

@@ -1,25 +1,13 @@
 -- The reasons for which each command refuses an input.
-use Rattle.std.specs.Prelude.{◌≡◌, ℕ, List, Some, Vec}
-use Rattle.std.specs.declared.alloc.Global.{Global}
+use Rattle.std.specs.Prelude.{◌≡◌, ℕ, List, Some}
 use Rattle.circle_air.specs.Parts.{parts_of}
 use Rattle.circle_air.specs.Refusal.{refusal}
-use Rattle.circle_challenger.specs.declared.sha256.Sha256Challenger.{Sha256Challenger}
-use Rattle.circle_commit.specs.declared.error.FriError.{FriError}
-use Rattle.circle_field.specs.declared.cubic.Cubic.{Cubic}
-use Rattle.circle_field.specs.declared.mersenne31.Mersenne31.{Mersenne31}
-use Rattle.circle_merkle.specs.declared.error.MerkleTreeError.{MerkleTreeError}
-use Rattle.circle_merkle.specs.declared.mmcs.ShaMmcs.{ShaMmcs}
-use Rattle.circle_prover.specs.Schemes.{Schemes}
-use Rattle.circle_relation.specs.declared.error.InputError.{InputError}
-use Rattle.circle_stark.specs.declared.error.StarkError.{StarkError}
 use Rattle.circle_stark.specs.declared.error.StarkError.TheVariants.{Memory as OutOfMemory}
-use Rattle.circle_stark.specs.declared.error.StarkProverError.{StarkProverError}
-use Rattle.circle_stark.specs.declared.proof.StarkStatement.{StarkStatement}
-use Rattle.circle_stark.specs.declared.trace.StarkTrace.{StarkTrace}
 use Rattle.stark_commands.specs.Check.{IsUnsatisfied}
+use Rattle.stark_commands.specs.Preset.{ProofError}
 use Rattle.stark_commands.specs.Proved.{IsUnproved, IsUnprovedFrom}
 use Rattle.stark_commands.specs.Verified.{HasAir, IsAcceptedFrom, IsUnverified, IsUnverifiedFrom}
-use Rattle.stark_commands.specs.Verified.{IsVerified, Scheme}
+use Rattle.stark_commands.specs.Verified.{IsVerified}
 use Rattle.stark_commands.specs.declared.check.Input.{Input}
 use Rattle.stark_commands.specs.declared.failure.Reason.{Reason}
 use Rattle.stark_commands.specs.declared.failure.Reason.TheVariants.{Check, Prove, Verify}
@@ -47,20 +35,13 @@ IsOfVerify Is (Check refusal) = ⊥
 IsOfVerify Is (Prove refusal) = ⊥
 IsOfVerify Is (Verify refusal) = Is refusal
 
--- `prove` refuses an input for this reason, where `Refuses` holds of what the prover refuses
-module _ (Refuses : Scheme → StarkTrace Mersenne31 → Sha256Challenger → Sha256Challenger →
-    StarkProverError → Type 0) (input : Statement)
-  where
-    abbrev pub IsProveReason : Reason → Type 0
-    IsProveReason = IsOfProve (IsUnproved Refuses input)
+-- `prove` refuses an input for this reason
+abbrev pub IsProveReason : Statement → Reason → Type 0
+IsProveReason input = IsOfProve (IsUnproved input)
 
-    -- from a challenger in the one state, which is left in the other
-    abbrev pub IsProveReasonFrom : List ℕ → List ℕ → Reason → Type 0
-    IsProveReasonFrom old new = IsOfProve (IsUnprovedFrom Refuses input old new)
-
--- why the verifier refuses a proof
-abbrev pub ProofError : Type 0
-ProofError = StarkError (FriError MerkleTreeError (InputError MerkleTreeError MerkleTreeError))
+-- from a challenger in the one state, which is left in the other
+abbrev pub IsProveReasonFrom : Statement → List ℕ → List ℕ → Reason → Type 0
+IsProveReasonFrom input old new = IsOfProve (IsUnprovedFrom input old new)
 
 -- the parts make no AIR, or the proof isn't accepted and the verifier refuses it by such an error,
 -- which isn't want of memory
@@ -70,26 +51,17 @@ IsUnverifiedBy Accepted Refuses input (Proof error) =
     HasAir input × ((¬ Accepted) × ((¬ (error ≡ OutOfMemory)) × Refuses error))
 IsUnverifiedBy Accepted Refuses input Memory = ⊥
 
-module _ {D WD : Type 0}
-    (o : Schemes Sha256Challenger (List ℕ) Mersenne31 Cubic (ShaMmcs Mersenne31) (List ℕ) D
-    (Vec (List ℕ) Global) (ShaMmcs Cubic) (List ℕ) WD (Vec (List ℕ) Global)) {P : Type 0}
-    (part : Claim → P)
-    (Refuses : Scheme → StarkStatement Mersenne31 → P → Sha256Challenger → Sha256Challenger →
-    ProofError → Type 0)
-  where
-    -- from a challenger in the one state, which is left in the other
-    abbrev pub IsVerifyRefusalFrom : Claim → List ℕ → List ℕ → Refusal → Type 0
-    IsVerifyRefusalFrom input old new =
-        IsUnverifiedBy (IsAcceptedFrom o input old)
-        (IsUnverifiedFrom Refuses (part input) input old new) input
+-- from a challenger in the one state, which is left in the other
+abbrev pub IsVerifyRefusalFrom : Claim → List ℕ → List ℕ → Refusal → Type 0
+IsVerifyRefusalFrom input old new =
+    IsUnverifiedBy (IsAcceptedFrom input old) (IsUnverifiedFrom input old new) input
 
-    abbrev pub IsVerifyReasonFrom : Claim → List ℕ → List ℕ → Reason → Type 0
-    IsVerifyReasonFrom input old new = IsOfVerify (IsVerifyRefusalFrom input old new)
+abbrev pub IsVerifyReasonFrom : Claim → List ℕ → List ℕ → Reason → Type 0
+IsVerifyReasonFrom input old new = IsOfVerify (IsVerifyRefusalFrom input old new)
 
-    -- and from a challenger that has absorbed nothing
-    abbrev pub IsVerifyRefusal : Claim → Refusal → Type 0
-    IsVerifyRefusal input =
-        IsUnverifiedBy (IsVerified o input) (IsUnverified Refuses (part input) input) input
+-- and from a challenger that has absorbed nothing
+abbrev pub IsVerifyRefusal : Claim → Refusal → Type 0
+IsVerifyRefusal input = IsUnverifiedBy (IsVerified input) (IsUnverified input) input
 
-    abbrev pub IsVerifyReason : Claim → Reason → Type 0
-    IsVerifyReason input = IsOfVerify (IsVerifyRefusal input)
+abbrev pub IsVerifyReason : Claim → Reason → Type 0
+IsVerifyReason input = IsOfVerify (IsVerifyRefusal input)

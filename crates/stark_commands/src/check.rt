@@ -13,7 +13,7 @@ use circle_air::{Air, AirError, AirParts, Violation, check_constraints};
 use circle_commands::values::{is_rectangular, matrix};
 use circle_commit::{FriParameters, is_power_of_two};
 use circle_field::Mersenne31;
-use circle_json::{JsonError, JsonForm, has_keys, member};
+use circle_json::{JsonError, has_keys, member};
 use serde_json::Value;
 use std::alloc::{AllocError, Global};
 
@@ -103,9 +103,7 @@ impl Command for Input {
     ghost use Rattle.stark_commands.specs.Check.{IsSatisfied, input_form, satisfied_line};
     ghost use Rattle.stark_commands.specs.Reasons.{IsCheckReason};
 
-    ghost form = { input_form ⟦<AirParts<Mersenne31> as JsonForm>⟧.form
-        ⟦<FriParameters<()> as JsonForm>⟧.form ⟦<Vec<Mersenne31> as JsonForm>⟧.form
-        ⟦<Vec<Vec<Mersenne31>> as JsonForm>⟧.form };
+    ghost form = { input_form };
 
     ghost is_result = { λ input line. IsSatisfied input × (line ≡ satisfied_line) };
 

@@ -32,13 +32,15 @@
 //! Its files:
 //!
 //! - In `src/`, `check.rt`, `prove.rt`, `verify.rt`: the commands. `command.rt`, `failure.rt`,
-//!   `names.rt`, `run.rt`: what commands have in common, and the program.
+//!   `names.rt`, `run.rt`: what commands have in common, and the program. `preset.rt`: what
+//!   contracts alone say of the choice of types.
 //! - In `specs/`, `Check`: the input, result and refusals of `check`. `Prove`, `Proved`: those of
 //!   `prove`. `Verify`, `Verified`: the input and the result of `verify`. `Reasons`: why each
-//!   command refuses. `Options`: the form of what may be missing. `Named`, `Refused`: the names of
-//!   refusals, and what the libraries' errors become. `Failure`, `Answer`, `Arguments`, `Program`:
-//!   lines and statuses, what a command makes of a text, the names of commands, what a run reads
-//!   and writes.
+//!   command refuses. `Commands`: the commands by name. `Preset`, `Chosen`: why proofs are refused
+//!   or not made at the one choice of types, named once. `Forms`, `Options`: the forms of an AIR, of
+//!   a proof and of what may be missing. `Named`, `Refused`: the names of refusals, and what the
+//!   libraries' errors become. `Failure`, `Answer`, `Arguments`, `Program`: lines and statuses, what
+//!   a command makes of a text, the names of commands, what a run reads and writes.
 //! - In `proofs/`: what they need of texts, of rows, and of what the prover and the verifier are
 //!   handed.
 #![tactic(auto)]
@@ -47,6 +49,7 @@ pub mod check;
 pub mod command;
 pub mod failure;
 mod names;
+mod preset;
 pub mod prove;
 pub mod run;
 pub mod verify;

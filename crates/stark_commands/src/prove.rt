@@ -5,12 +5,12 @@ ghost use Rattle.circle_challenger.specs.Sha256Challenger.{state_of};
 ghost use Rattle.circle_air.specs.Parts.{parts_of};
 ghost use Rattle.circle_commands.specs.Rows.{lists};
 ghost use Rattle.circle_commands.specs.Text.{IsLineOf};
-ghost use Rattle.circle_json.specs.ObjectForm.{object_form};
 ghost use Rattle.stark_commands.specs.Named.{prove_name};
-ghost use Rattle.stark_commands.specs.Prove.{input_fields};
+ghost use Rattle.stark_commands.specs.Prove.{statement_form};
 ghost use Rattle.stark_commands.specs.Proved.{AreFittingRows, IsFitting, IsProved, IsProvedFrom};
 ghost use Rattle.stark_commands.specs.Proved.{IsRefusalOfRows, IsTooLarge, IsUnproved};
 ghost use Rattle.stark_commands.specs.Proved.{IsUnprovedFrom};
+ghost use Rattle.stark_commands.specs.Verify.{claim_form};
 ghost use Rattle.stark_commands.specs.declared.prove.Refusal.TheVariants.{Memory};
 
 use crate::command::{Command, CommandFrom};
@@ -22,9 +22,8 @@ use circle_commands::json::line;
 use circle_commands::values::{is_rectangular, matrix};
 use circle_commit::{FriParameters, is_power_of_two, log2_strict};
 use circle_json::{JsonError, JsonForm, has_keys, member};
-use circle_presets::{Challenge, ChallengeMmcs, Challenger, Scheme, Val, ValMmcs};
-use circle_prover::OpeningOver;
-use circle_stark::{StarkProverError, StarkRelation, StarkTrace};
+use circle_presets::{ChallengeMmcs, Challenger, Scheme, Val, ValMmcs};
+use circle_stark::{StarkProverError, StarkTrace};
 use serde_json::Value;
 use std::alloc::{AllocError, Global};
 
@@ -129,16 +128,11 @@ impl Command for Input {
     ghost use Rattle.stark_commands.specs.Proved.{IsProofLine};
     ghost use Rattle.stark_commands.specs.Reasons.{IsProveReason};
 
-    ghost form = { object_form (input_fields ⟦<AirParts<Val> as JsonForm>⟧.form
-        ⟦<FriParameters<()> as JsonForm>⟧.form ⟦<Vec<Val> as JsonForm>⟧.form
-        ⟦<Vec<Vec<Val>> as JsonForm>⟧.form) };
+    ghost form = { statement_form };
 
-    ghost is_result = { IsProofLine
-        ⟦<Challenger as OpeningOver<Val, Challenge, ValMmcs, ChallengeMmcs>>⟧.schemes
-        ⟦<verify::Input as JsonForm>⟧.form };
+    ghost is_result = { IsProofLine };
 
-    ghost is_reason = { IsProveReason
-        ⟦<Scheme as StarkRelation<Challenge, Challenger>>⟧.unproved };
+    ghost is_reason = { IsProveReason };
 
     fn read(alloc: Global, value: &Value) -> Result<Input, JsonError> {
         has_keys(value, &["air", "params", "public_values", "rows"])?;
@@ -163,12 +157,9 @@ impl CommandFrom for Input {
     ghost use Rattle.stark_commands.specs.Proved.{IsProofLineFrom};
     ghost use Rattle.stark_commands.specs.Reasons.{IsProveReasonFrom};
 
-    ghost is_result_from = { IsProofLineFrom
-        ⟦<Challenger as OpeningOver<Val, Challenge, ValMmcs, ChallengeMmcs>>⟧.schemes
-        ⟦<verify::Input as JsonForm>⟧.form };
+    ghost is_result_from = { IsProofLineFrom };
 
-    ghost is_reason_from = { IsProveReasonFrom
-        ⟦<Scheme as StarkRelation<Challenge, Challenger>>⟧.unproved };
+    ghost is_reason_from = { IsProveReasonFrom };
 
     /// The line of an input of `verify`, as [`verify::Input`] reads it.
     ///
@@ -181,8 +172,7 @@ impl CommandFrom for Input {
 
 // The compact text of a claim, as a line.
 fn claim_line(alloc: Global, claim: &verify::Input) -> Result<String, AllocError>
-    ensures { IfOk result (λ text. IsLineOf ⟦<verify::Input as JsonForm>⟧.form claim.now
-        (string_bytes text)) }
+    ensures { IfOk result (λ text. IsLineOf claim_form claim.now (string_bytes text)) }
 {
     line(alloc, &claim.to_json(alloc)?)
 }
@@ -192,10 +182,8 @@ fn claim_line(alloc: Global, claim: &verify::Input) -> Result<String, AllocError
 /// Fails by the first [`Refusal`] that holds, in their order, where `Prover` is what
 /// [`circle_stark::prove`] returns. [`verify::verify`] accepts the result.
 pub fn prove(alloc: Global, input: Input) -> Result<verify::Input, Refusal>
-    ensures proved { IfOk result (IsProved
-        ⟦<Challenger as OpeningOver<Val, Challenge, ValMmcs, ChallengeMmcs>>⟧.schemes input) }
-    ensures refused { let p = ⟦<Scheme as StarkRelation<Challenge, Challenger>>⟧ in
-        IfErr result (λ e. (e ≡ Memory) ⊎ IsUnproved p.unproved input e) }
+    ensures proved { IfOk result (IsProved input) }
+    ensures refused { IfErr result (λ e. (e ≡ Memory) ⊎ IsUnproved input e) }
 {
     let mut challenger = Challenger::new();
     prove_from(alloc, input, &mut challenger)
@@ -213,12 +201,10 @@ pub fn prove_from(
     input: Input,
     challenger: &mut Challenger,
 ) -> Result<verify::Input, Refusal>
-    ensures proved { let o = ⟦<Challenger as OpeningOver<Val, Challenge, ValMmcs, ChallengeMmcs>>⟧
-        in IfOk result (λ claim. IsProvedFrom o.schemes input claim (state_of challenger.old)
-        (state_of challenger.new)) }
-    ensures refused { let p = ⟦<Scheme as StarkRelation<Challenge, Challenger>>⟧ in
-        IfErr result (λ e. (e ≡ Memory) ⊎ IsUnprovedFrom p.unproved input (state_of challenger.old)
-        (state_of challenger.new) e) }
+    ensures proved { IfOk result (λ claim.
+        IsProvedFrom input claim (state_of challenger.old) (state_of challenger.new)) }
+    ensures refused { let s = state_of in IfErr result
+        (λ e. (e ≡ Memory) ⊎ IsUnprovedFrom input (s challenger.old) (s challenger.new) e) }
     ensures kept { IfErr result (λ e. (¬ IsFitting input) → challenger.new ≡ challenger.old) }
 {
     let Input {

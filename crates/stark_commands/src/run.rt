@@ -3,6 +3,7 @@ ghost use Rattle.std.specs.Prelude.{◌≡◌, ◌≤◌, ◌↔◌, Err, IfSome
 ghost use Rattle.circle_commands.specs.declared.failure.Failure.TheVariants.{Usage};
 ghost use Rattle.stark_commands.specs.Answer.{IsAnswer};
 ghost use Rattle.stark_commands.specs.Arguments.{Names, NamesCommand};
+ghost use Rattle.stark_commands.specs.Commands.{Answers, check, prove, verify};
 ghost use Rattle.stark_commands.specs.Program.{HasRun, IsOfInput, IsTold};
 ghost use Rattle.stark_commands.specs.declared.failure.Failure.TheVariants.{Common as CommonFailure};
 ghost use Rattle.stark_commands.specs.declared.run.CommandName.TheVariants as names;
@@ -53,14 +54,11 @@ pub fn run<R: Read, W: Write>(alloc: Global, args: &[String], input: &mut R, out
     ensures usage { ¬ NamesCommand args.now → IsTold (Err (CommonFailure Usage))
         (W.contents output.old) (W.contents output.new) result }
     ensures unread { ¬ NamesCommand args.now → input.new ≡ input.old }
-    ensures check { let c = ⟦<check::Input as Command>⟧ in Names args.now names.Check
-        → HasRun (IsAnswer c.form c.is_result c.is_reason) (R.remaining input.old)
+    ensures check { Names args.now names.Check → HasRun (Answers check) (R.remaining input.old)
         (R.remaining input.new) (W.contents output.old) (W.contents output.new) result }
-    ensures prove { let c = ⟦<prove::Input as Command>⟧ in Names args.now names.Prove
-        → HasRun (IsAnswer c.form c.is_result c.is_reason) (R.remaining input.old)
+    ensures prove { Names args.now names.Prove → HasRun (Answers prove) (R.remaining input.old)
         (R.remaining input.new) (W.contents output.old) (W.contents output.new) result }
-    ensures verify { let c = ⟦<verify::Input as Command>⟧ in Names args.now names.Verify
-        → HasRun (IsAnswer c.form c.is_result c.is_reason) (R.remaining input.old)
+    ensures verify { Names args.now names.Verify → HasRun (Answers verify) (R.remaining input.old)
         (R.remaining input.new) (W.contents output.old) (W.contents output.new) result }
 {
     match CommandName::from_args(args) {

@@ -1,12 +1,11 @@
 //! The command `verify`: whether a proof shows that rows of a trace satisfy an AIR.
 ghost use Rattle.std.specs.Prelude.{◌≡◌, ◌⊎◌, IfErr, IfOk, OnOk, string_bytes};
 ghost use Rattle.circle_challenger.specs.Sha256Challenger.{state_of};
-ghost use Rattle.circle_json.specs.ObjectForm.{object_form};
 ghost use Rattle.stark_commands.specs.Named.{verify_name};
 ghost use Rattle.stark_commands.specs.Reasons.{IsVerifyRefusal, IsVerifyRefusalFrom};
 ghost use Rattle.stark_commands.specs.Verified.{HasAir, IsAcceptedFrom, IsVerified, IsVerifiedFrom};
 ghost use Rattle.stark_commands.specs.Verified.{described, statement_given, verified_line};
-ghost use Rattle.stark_commands.specs.Verify.{input_fields};
+ghost use Rattle.stark_commands.specs.Verify.{claim_form};
 ghost use Rattle.stark_commands.specs.declared.verify.Refusal.TheVariants.{Memory};
 
 use crate::command::{Command, CommandFrom};
@@ -15,11 +14,8 @@ use crate::names::{air_name, stark_name};
 use circle_air::{Air, AirError, AirParts};
 use circle_commit::FriParameters;
 use circle_json::{JsonError, JsonForm, has_keys, member, put_member};
-use circle_presets::{
-    Challenge, ChallengeMmcs, Challenger, Scheme, Val, ValMmcs, VerifierError, scheme,
-};
-use circle_prover::OpeningOver;
-use circle_stark::{StarkError, StarkProof, StarkRelation, StarkStatement};
+use circle_presets::{Challenge, ChallengeMmcs, Challenger, Val, ValMmcs, VerifierError, scheme};
+use circle_stark::{StarkError, StarkProof, StarkStatement};
 use serde_json::{Map, Value};
 use std::alloc::{AllocError, Global};
 use std::fmt::InlineText;
@@ -44,9 +40,7 @@ pub struct Input {
 
 /// An object of the `air`, `log_n`, the `params`, the `proof` and the `public_values`.
 impl JsonForm for Input {
-    ghost form = { object_form (input_fields (λ i. i.proof) ⟦<AirParts<Val> as JsonForm>⟧.form
-        ⟦<FriParameters<()> as JsonForm>⟧.form ⟦<Proof as JsonForm>⟧.form
-        ⟦<Vec<Val> as JsonForm>⟧.form) };
+    ghost form = { claim_form };
 
     fn to_json(&self, alloc: Global) -> Result<Value, AllocError> {
         let mut object = Map::new(alloc);
@@ -130,15 +124,12 @@ impl Command for Input {
     ghost use Rattle.stark_commands.specs.Verified.{IsVerified, described, statement_given};
     ghost use Rattle.stark_commands.specs.Verified.{verified_line};
 
-    ghost form = { ⟦<Input as JsonForm>⟧.form };
+    ghost form = { claim_form };
 
-    ghost is_result = { λ input line. IsVerified
-        ⟦<Challenger as OpeningOver<Val, Challenge, ValMmcs, ChallengeMmcs>>⟧.schemes input
+    ghost is_result = { λ input line. IsVerified input
         × (line ≡ verified_line (described (statement_given input)).digest input.log_n) };
 
-    ghost is_reason = { IsVerifyReason
-        ⟦<Challenger as OpeningOver<Val, Challenge, ValMmcs, ChallengeMmcs>>⟧.schemes (λ i. i.proof)
-        ⟦<Scheme as StarkRelation<Challenge, Challenger>>⟧.refuses };
+    ghost is_reason = { IsVerifyReason };
 
     fn read(alloc: Global, value: &Value) -> Result<Input, JsonError> {
         <Input as JsonForm>::from_json(alloc, value)
@@ -160,13 +151,10 @@ impl CommandFrom for Input {
     ghost use Rattle.stark_commands.specs.Verified.{IsVerifiedFrom, described, statement_given};
     ghost use Rattle.stark_commands.specs.Verified.{verified_line};
 
-    ghost is_result_from = { λ input old new line. IsVerifiedFrom
-        ⟦<Challenger as OpeningOver<Val, Challenge, ValMmcs, ChallengeMmcs>>⟧.schemes input old new
+    ghost is_result_from = { λ input old new line. IsVerifiedFrom input old new
         × (line ≡ verified_line (described (statement_given input)).digest input.log_n) };
 
-    ghost is_reason_from = { IsVerifyReasonFrom
-        ⟦<Challenger as OpeningOver<Val, Challenge, ValMmcs, ChallengeMmcs>>⟧.schemes (λ i. i.proof)
-        ⟦<Scheme as StarkRelation<Challenge, Challenger>>⟧.refuses };
+    ghost is_reason_from = { IsVerifyReasonFrom };
 
     /// The line of the AIR's digest and `log_n`, which ends in `"verified":true}`.
     ///
@@ -184,15 +172,10 @@ impl CommandFrom for Input {
 /// Fails as `Air` where the parts make no AIR, and then as [`circle_stark::verify`] does. Of a
 /// proof that is verified it fails only when out of memory.
 pub fn verify(alloc: Global, input: Input) -> Result<[u8; 32], Refusal>
-    ensures accepted { OnOk result (IsVerified
-        ⟦<Challenger as OpeningOver<Val, Challenge, ValMmcs, ChallengeMmcs>>⟧.schemes input) }
+    ensures accepted { OnOk result (IsVerified input) }
     ensures digest { IfOk result (λ digest. digest ≡ (described (statement_given input)).digest) }
-    ensures complete { let o = ⟦<Challenger as OpeningOver<Val, Challenge, ValMmcs, ChallengeMmcs>>⟧
-        in IfErr result (λ e. IsVerified o.schemes input → e ≡ Memory) }
-    ensures reason { let o = ⟦<Challenger as OpeningOver<Val, Challenge, ValMmcs, ChallengeMmcs>>⟧
-        in let p = ⟦<Scheme as StarkRelation<Challenge, Challenger>>⟧
-        in IfErr result (λ e. (e ≡ Memory)
-        ⊎ IsVerifyRefusal o.schemes (λ i. i.proof) p.refuses input e) }
+    ensures complete { IfErr result (λ e. IsVerified input → e ≡ Memory) }
+    ensures reason { IfErr result (λ e. (e ≡ Memory) ⊎ IsVerifyRefusal input e) }
 {
     let mut challenger = Challenger::new();
     verify_from(alloc, input, &mut challenger)
@@ -209,17 +192,13 @@ pub fn verify_from(
     input: Input,
     challenger: &mut Challenger,
 ) -> Result<[u8; 32], Refusal>
-    ensures accepted { let o = ⟦<Challenger as OpeningOver<Val, Challenge, ValMmcs, ChallengeMmcs>>⟧
-        in OnOk result (IsVerifiedFrom o.schemes input (state_of challenger.old)
-        (state_of challenger.new)) }
+    ensures accepted { OnOk result
+        (IsVerifiedFrom input (state_of challenger.old) (state_of challenger.new)) }
     ensures digest { IfOk result (λ digest. digest ≡ (described (statement_given input)).digest) }
-    ensures complete { let o = ⟦<Challenger as OpeningOver<Val, Challenge, ValMmcs, ChallengeMmcs>>⟧
-        in IfErr result (λ e. IsAcceptedFrom o.schemes input (state_of challenger.old)
-        → e ≡ Memory) }
-    ensures reason { let o = ⟦<Challenger as OpeningOver<Val, Challenge, ValMmcs, ChallengeMmcs>>⟧
-        in let p = ⟦<Scheme as StarkRelation<Challenge, Challenger>>⟧
-        in IfErr result (λ e. (e ≡ Memory) ⊎ IsVerifyRefusalFrom o.schemes (λ i. i.proof) p.refuses
-        input (state_of challenger.old) (state_of challenger.new) e) }
+    ensures complete { IfErr result
+        (λ e. IsAcceptedFrom input (state_of challenger.old) → e ≡ Memory) }
+    ensures reason { let s = state_of in IfErr result
+        (λ e. (e ≡ Memory) ⊎ IsVerifyRefusalFrom input (s challenger.old) (s challenger.new) e) }
     ensures kept { IfErr result (λ e. (¬ HasAir input) → challenger.new ≡ challenger.old) }
 {
     let Input {

@@ -1,7 +1,6 @@
 use Rattle.std.proofs.Common.{◌≡◌, ◌∙◌, eq-eqb, sym}
 use Rattle.circle_challenger.specs.Sha256Challenger.{state_of}
-use Rattle.stark_commands.specs.Reasons.{IsVerifyReasonFrom}
-use Rattle.stark_commands.specs.Verified.{IsVerifiedFrom, described, statement_given, verified_line}
+use Rattle.stark_commands.specs.Commands.{verify_from}
 use Rattle.circle_c.specs.Challenger.{IsReasonFrom}
 use Rattle.circle_c.proofs.Written.{reason_written, refused-from, result_written, texts_unread}
 use Rattle.circle_c.specs.Statement.{AreTextsOf}
@@ -9,7 +8,7 @@ use Rattle.circle_c.proofs.statement.call_verify_from.Goals as goal
 
 pub returns-in-Err-clause-unreadable : goal.returns-in-Err-clause-unreadable
 returns-in-Err-clause-unreadable c = λ two.
-    texts_unread c.args.line.now c.refuse.new.line c.refuse.new.needed _ _ (λ i. i.proof)
+    texts_unread c.args.line.now c.refuse.new.line c.refuse.new.needed
     c.args.statement.now c.args.proof.now c.in-Err.unread c.in-Err.ensures.refuses
     c.refuse.ensures.written (sym c.refuse.ensures.status ∙ two)
 
@@ -17,9 +16,8 @@ pub returns-clause-accepted : goal.returns-clause-accepted
 returns-clause-accepted c = λ none.
     result_written c.args.line.now c.report-status.new.line c.report-status.new.needed
     c.in-Ok.input
-    (AreTextsOf _ _ (λ i. i.proof) c.args.statement.now c.args.proof.now) c.in-Ok.ensures.reads
-    (λ i l. IsVerifiedFrom _ i c.args.challenger.now.state c.leave_if.new.self.state
-    × (l ≡ verified_line (described (statement_given i)).digest i.log_n))
+    (AreTextsOf c.args.statement.now c.args.proof.now) c.in-Ok.ensures.reads
+    (λ i. verify_from.is_result_from i c.args.challenger.now.state c.leave_if.new.self.state)
     c.line_from.result
     (rw (
       c.to_challenger-own.ensures,
@@ -31,10 +29,9 @@ pub returns-clause-refused : goal.returns-clause-refused
 returns-clause-refused c = λ one.
     reason_written c.args.line.now c.report-status.new.line c.report-status.new.needed
     c.in-Ok.input
-    (AreTextsOf _ _ (λ i. i.proof) c.args.statement.now c.args.proof.now) c.in-Ok.ensures.reads
-    (IsReasonFrom (IsVerifyReasonFrom _ (λ j. j.proof) _) c.args.challenger.now.state)
-    c.line_from.result
-    (refused-from (IsVerifyReasonFrom _ (λ j. j.proof) _) _ _
+    (AreTextsOf c.args.statement.now c.args.proof.now) c.in-Ok.ensures.reads
+    (IsReasonFrom verify_from.is_reason_from c.args.challenger.now.state) c.line_from.result
+    (refused-from verify_from.is_reason_from _ _
     (state_of c.line_from.new.challenger) c.to_challenger-own.ensures c.in-Ok.input
     c.line_from.result c.line_from.ensures.refused)
     c.report-status.ensures.written (sym c.report-status.ensures.status ∙ one)

@@ -27,5 +27,5 @@ returns-in_err-commitments-clause-rows c =
 
 pub returns-clause-commitments : goal.returns-clause-commitments
 returns-clause-commitments c =
-    commitments-of _ c.in_ok-committed.committed c.args.input.now c.in_ok-committed.ensures.input _
+    commitments-of c.in_ok-committed.committed c.args.input.now c.in_ok-committed.ensures.input _
     c.in_ok-committed.ensures.committed c.in_ok-commitments.ensures

@@ -1,7 +1,8 @@
 use Rattle.std.proofs.Common.{◌≤◌, ap, arith}
 use Rattle.serde_json.specs.Data.{depth}
 use Rattle.serde_json.specs.View.{view}
-use Rattle.circle_commands.proofs.Depth.{claims, claims_form}
+use Rattle.circle_commands.specs.Verify.{claims_form}
+use Rattle.circle_commands.proofs.Depth.{claims}
 use Rattle.circle_commands.proofs.Texts.{if-ok}
 use Rattle.circle_commands.proofs.prove.claims_line.Goals as goal
 

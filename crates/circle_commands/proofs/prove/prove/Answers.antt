@@ -21,7 +21,7 @@ returns-in_err-committed-clause-rows c =
 
 pub returns-in_err-committed-clause-reason : goal.returns-in_err-committed-clause-reason
 returns-in_err-committed-clause-reason c =
-    by_new _ _ c.args.input _ c.from_residual.result c.in_err-committed.field-0.0
+    by_new c.args.input c.from_residual.result c.in_err-committed.field-0.0
     c.from_residual.ensures.1 c.in_err-committed.ensures.reason
 
 pub open-requires : goal.open-requires
@@ -35,7 +35,7 @@ returns-in_err-open-clause-rows c =
 
 pub returns-in_err-open-clause-reason : goal.returns-in_err-open-clause-reason
 returns-in_err-open-clause-reason c =
-    by_open _ _ c.args.input _ c.from_residual-in_err-open.result c.in_err-open.field-0.0
+    by_open c.args.input c.from_residual-in_err-open.result c.in_err-open.field-0.0
     c.in_ok-committed.committed.input.now c.in_ok-committed.committed.batches.items
     (state_of c.observe_commitments.new.challenger) (state_of c.open.new.challenger)
     c.from_residual-in_err-open.ensures.1 c.in_ok-committed.ensures.input
@@ -52,7 +52,7 @@ returns-clause-proof c = record {
       from_new (λ (b : Committed). b.commitment) _ _ _ _ c.new-challenger.ensures
       c.deref.ensures.value c.observe_commitments.ensures;
   opened =
-      opened-of _ c.in_ok-committed.committed c.args.input c.in_ok-committed.ensures.input _ _ _
+      opened-of c.in_ok-committed.committed c.args.input c.in_ok-committed.ensures.input _ _ _
       c.in_ok-open.ensures.opened;
 }
 
@@ -64,7 +64,7 @@ returns-clause-accepted c = λ some. record {
       from_new (λ (b : Committed). b.commitment) _ _ _ _ c.new-challenger.ensures
       c.deref.ensures.value c.observe_commitments.ensures
       ∙ ap (after_commitments (replicate 32 0))
-      (sym (commitments-opened _ _ _ _ _ _ c.in_ok-open.ensures.opened));
+      (sym (commitments-opened _ _ _ _ _ c.in_ok-open.ensures.opened));
   verified =
       c.in_ok-open.ensures.accepted (subst HavePoints (sym c.in_ok-committed.ensures.input) some);
 }

@@ -18,7 +18,7 @@ returns-in_err-committed-clause-rows c =
 
 pub returns-in_err-committed-clause-reason : goal.returns-in_err-committed-clause-reason
 returns-in_err-committed-clause-reason c =
-    by_new_from _ _ c.args.input _ c.from_residual.result c.in_err-committed.field-0.0
+    by_new_from c.args.input c.from_residual.result c.in_err-committed.field-0.0
     (state_of c.args.challenger.now) c.from_residual.ensures.1 c.in_err-committed.ensures.reason
 
 pub open-requires : goal.open-requires
@@ -32,7 +32,7 @@ returns-in_err-open-clause-rows c =
 
 pub returns-in_err-open-clause-reason : goal.returns-in_err-open-clause-reason
 returns-in_err-open-clause-reason c =
-    by_open_from _ _ c.args.input _ c.from_residual-in_err-open.result c.in_err-open.field-0.0
+    by_open_from c.args.input c.from_residual-in_err-open.result c.in_err-open.field-0.0
     c.in_ok-committed.committed.input.now c.in_ok-committed.committed.batches.items
     (state_of c.args.challenger.now) (state_of c.open.new.challenger)
     c.from_residual-in_err-open.ensures.1 c.in_ok-committed.ensures.input
@@ -41,15 +41,15 @@ returns-in_err-open-clause-reason c =
 pub returns-clause-proof : goal.returns-clause-proof
 returns-clause-proof c = (
   c.in_ok-committed.committed.batches.items,
-  opened-of _ c.in_ok-committed.committed c.args.input c.in_ok-committed.ensures.input _ _ _
+  opened-of c.in_ok-committed.committed c.args.input c.in_ok-committed.ensures.input _ _ _
       c.in_ok-open.ensures.opened,
 )
 
 pub returns-clause-commitments : goal.returns-clause-commitments
 returns-clause-commitments c =
-    commitments-of _ c.in_ok-committed.committed c.args.input c.in_ok-committed.ensures.input _
+    commitments-of c.in_ok-committed.committed c.args.input c.in_ok-committed.ensures.input _
     c.in_ok-committed.ensures.committed
-    (commitments-opened _ _ _ _ _ _ c.in_ok-open.ensures.opened)
+    (commitments-opened _ _ _ _ _ c.in_ok-open.ensures.opened)
 
 pub returns-clause-accepted : goal.returns-clause-accepted
 returns-clause-accepted c = λ some.

@@ -21,7 +21,7 @@ pub returns-clause-complete : goal.returns-clause-complete
 returns-clause-complete c =
     if_err _ _ c.verify_from.result
     (λ e complete v. complete (state_of v.left)
-    (verified_from _ c.args.input (state_of c.observe_commitments.new.challenger)
+    (verified_from c.args.input (state_of c.observe_commitments.new.challenger)
     (from_new commitment_of _ _ _ _ c.new-challenger.ensures c.deref.ensures.value
     c.observe_commitments.ensures) v))
     c.verify_from.ensures.complete
@@ -30,7 +30,7 @@ pub returns-clause-reason : goal.returns-clause-reason
 returns-clause-reason c =
     if_err _ _ c.verify_from.result
     (λ e h. ⊎_elim (λ m. inl m)
-    (λ u. inr (unverified_from _ _ c.args.input e
+    (λ u. inr (unverified_from c.args.input e
     (state_of c.observe_commitments.new.challenger) (state_of c.verify_from.new.challenger)
     (from_new commitment_of _ _ _ _ c.new-challenger.ensures c.deref.ensures.value
     c.observe_commitments.ensures) u)) h)

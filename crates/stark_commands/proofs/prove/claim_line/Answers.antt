@@ -2,7 +2,8 @@ use Rattle.std.proofs.Common.{◌≤◌, ap, arith}
 use Rattle.serde_json.specs.Data.{depth}
 use Rattle.serde_json.specs.View.{view}
 use Rattle.circle_commands.proofs.Texts.{if-ok}
-use Rattle.stark_commands.proofs.Depth.{claim, claim_form}
+use Rattle.stark_commands.proofs.Depth.{claim}
+use Rattle.stark_commands.specs.Verify.{claim_form}
 use Rattle.stark_commands.proofs.prove.claim_line.Goals as goal
 
 pub returns : goal.returns

@@ -99,7 +99,7 @@ returns-clause-proved c =
     } in
     let many = height_is i c.deref-2.result.now _ c.deref-2.ensures.value
     c.in_ok-matrix.ensures.height in
-    proved _ i claim (stated_by (air_of c.in_ok-air.air) (height_of c.in_ok-matrix.field-0)
+    proved i claim (stated_by (air_of c.in_ok-air.air) (height_of c.in_ok-matrix.field-0)
     c.deref-3.result.now) (rows_of c.in_ok-matrix.field-0) c.new-scheme.result.mmcs
     c.new-scheme.result.fri_params.mmcs c.new-scheme.result.fri_params
     (state_of c.args.challenger.now) (state_of c.prove.new.challenger)

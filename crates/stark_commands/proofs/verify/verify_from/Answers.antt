@@ -32,7 +32,7 @@ returns-in_err-verify-clause-complete c =
     (λ reason is. never_of_verified _ c.in_err-verify.field-0.0 reason is
     (λ v. c.in_err-verify.ensures.complete (
       v.0,
-      accepted _ c.args.input _ c.scheme.result.mmcs c.scheme.result.fri_params.mmcs
+      accepted c.args.input _ c.scheme.result.mmcs c.scheme.result.fri_params.mmcs
           c.scheme.result.fri_params (state_of c.args.challenger.now) v.0
           (stated c.args.input (air_of c.in_ok-air.air) c.deref.result.now c.in_ok-air.ensures.same
           c.deref.ensures.value) c.scheme.ensures v.1,
@@ -45,7 +45,7 @@ returns-in_err-verify-clause-reason c =
     c.in_ok-air.ensures.accepts
     (λ v. c.in_err-verify.ensures.complete (
       v.0,
-      accepted _ c.args.input _ c.scheme.result.mmcs c.scheme.result.fri_params.mmcs
+      accepted c.args.input _ c.scheme.result.mmcs c.scheme.result.fri_params.mmcs
           c.scheme.result.fri_params (state_of c.args.challenger.now) v.0
           (stated c.args.input (air_of c.in_ok-air.air) c.deref.result.now c.in_ok-air.ensures.same
           c.deref.ensures.value) c.scheme.ensures v.1,
@@ -76,7 +76,7 @@ returns-in_err-verify-clause-kept c =
 
 pub returns-clause-accepted : goal.returns-clause-accepted
 returns-clause-accepted c =
-    verified _ c.args.input _ c.scheme.result.mmcs c.scheme.result.fri_params.mmcs
+    verified c.args.input _ c.scheme.result.mmcs c.scheme.result.fri_params.mmcs
     c.scheme.result.fri_params (state_of c.args.challenger.now)
     (state_of c.verify.new.challenger)
     (stated c.args.input (air_of c.in_ok-air.air) c.deref.result.now c.in_ok-air.ensures.same

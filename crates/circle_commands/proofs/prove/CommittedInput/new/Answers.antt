@@ -1,8 +1,5 @@
 use Rattle.std.proofs.Common.{◌∙◌, sym, subst}
-use Rattle.std.specs.List.{AllZip}
-use Rattle.circle_field.specs.Bytes.{bytes}
-use Rattle.circle_merkle.specs.Authentication.{IsShaRoot}
-use Rattle.circle_commands.specs.Proved.{IsCommitted}
+use Rattle.circle_commands.specs.Proved.{AreCommitted}
 use Rattle.circle_commands.specs.Traces.{AreFitting, AreTall, IsRefusalOfBatches}
 use Rattle.circle_commands.proofs.First.{passed_by, tall-fitting}
 use Rattle.circle_commands.proofs.Unproved.{by_commit, by_rows, in-params}
@@ -34,16 +31,15 @@ returns-clause-committed c = record {
       (c.new-scheme.ensures.params ∙ c.with_mmcs.ensures);
   batches =
       subst
-      (λ bs. AllZip
-      (λ b m. IsCommitted (IsShaRoot bytes) c.new-scheme.result.fri_params.log_blowup b.items m)
-      bs c.in_ok-batches.batches.items) c.deref-2.ensures.value c.in_ok-batches.ensures.made;
+      (λ bs. AreCommitted c.new-scheme.result.mmcs c.new-scheme.result.fri_params.log_blowup bs
+      c.in_ok-batches.batches.items) c.deref-2.ensures.value c.in_ok-batches.ensures.made;
 }
 
 pub
     returns-in_err-validate_batches-clause-reason :
     goal.returns-in_err-validate_batches-clause-reason
 returns-in_err-validate_batches-clause-reason c =
-    by_rows _ _ c.args.input.now c.from_residual.result c.in_err-validate_batches.field-0.0
+    by_rows c.args.input.now c.from_residual.result c.in_err-validate_batches.field-0.0
     c.from_residual.ensures.1
     (subst
     (λ bs. IsRefusalOfBatches c.args.input.now.params.log_final_poly_len bs
@@ -52,7 +48,7 @@ returns-in_err-validate_batches-clause-reason c =
 
 pub returns-in_err-batches-clause-reason : goal.returns-in_err-batches-clause-reason
 returns-in_err-batches-clause-reason c =
-    by_commit _ _ c.args.input.now c.from_residual-in_err-batches.result
+    by_commit c.args.input.now c.from_residual-in_err-batches.result
     c.in_err-batches.field-0.0 c.new-scheme.result c.from_residual-in_err-batches.ensures.1
     (in-params c.args.input.now c.new-scheme.result _
     (c.new-scheme.ensures.params ∙ c.with_mmcs.ensures))

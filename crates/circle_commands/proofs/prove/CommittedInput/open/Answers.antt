@@ -1,15 +1,8 @@
-use Rattle.std.proofs.Common.{◌∙◌, All, sym, ap, subst, refl, lit≤, inl, inr}
+use Rattle.std.proofs.Common.{◌∙◌, All, sym, ap, subst, refl, inl, inr}
 use Rattle.std.specs.List.{AllZip}
 use Rattle.circle_commit.specs.DotProduct.{pairwise}
 use Rattle.circle_commit.specs.Pcs.{openings}
 use Rattle.circle_challenger.specs.Sha256Challenger.{state_of}
-use Rattle.circle_challenger.specs.Sponge.{number-below}
-use Rattle.circle_field.specs.Bytes.{bytes}
-use Rattle.circle_field.specs.CubicOperations.{is_embedding, laws}
-use Rattle.circle_field.specs.Mersenne31Circle.{are_generators}
-use Rattle.circle_field.specs.Mersenne31Laws.{laws as base-laws}
-use Rattle.circle_merkle.specs.Authentication.{IsShaRoot}
-use Rattle.circle_merkle.specs.ProverData.{matrices_of}
 use Rattle.circle_relation.specs.declared.error.ProverError.TheVariants.{Memory}
 use Rattle.circle_commands.specs.Proved.{IsRequested, batch_claimed}
 use Rattle.circle_commands.specs.Traces.{HasFittingRows}
@@ -27,10 +20,9 @@ pub open-requires : goal.open-requires
 open-requires c =
     let self = c.args.self.now in
     let requests = c.in_ok-requests.requests.items in
-    requested_powers (IsShaRoot bytes) self.scheme.fri_params.log_blowup matrices_of
+    requested_powers self.scheme.mmcs self.scheme.fri_params.log_blowup
     self.input.now.batches.items self.batches.items requests c.requires.batches
-    (subst (λ cs. AllZip (IsRequested matrices_of) cs requests) c.deref.ensures.value
-    c.in_ok-requests.ensures)
+    (subst (λ cs. AllZip IsRequested cs requests) c.deref.ensures.value c.in_ok-requests.ensures)
 
 pub returns-in_err-values-clause-reason : goal.returns-in_err-values-clause-reason
 returns-in_err-values-clause-reason c =
@@ -42,7 +34,7 @@ returns-in_err-values-clause-reason c =
       params = c.requires.params;
       batches = c.requires.batches;
       asked =
-          subst (λ cs. AllZip (IsRequested matrices_of) cs requests) c.deref.ensures.value
+          subst (λ cs. AllZip IsRequested cs requests) c.deref.ensures.value
           c.in_ok-requests.ensures;
       refuses = c.in_err-values.ensures.failure;
     }))
@@ -51,7 +43,7 @@ pub claims-requires : goal.claims-requires
 claims-requires c =
     let self = c.args.self.now in
     subst (All (λ c. All HasFittingRows c.traces.now)) (sym c.deref-2.ensures.value)
-    (committed_fit (IsShaRoot bytes) self.scheme.fri_params.log_blowup
+    (committed_fit self.scheme.mmcs self.scheme.fri_params.log_blowup
     self.input.now.batches.items self.batches.items c.requires.batches)
 
 pub returns-in_err-claims-clause-reason : goal.returns-in_err-claims-clause-reason
@@ -63,11 +55,10 @@ returns-clause-opened c =
     let self = c.args.self.now in
     let requests = c.in_ok-requests.requests.items in
     let values = c.in_ok-values.values.items in
-    proved _ self.input.now _ self.scheme.mmcs self.scheme.fri_params.mmcs self.batches.items
+    proved self.input.now _ self.scheme.mmcs self.scheme.fri_params.mmcs self.batches.items
     requests (openings values) (state_of c.args.challenger.now) (state_of c.open.new.challenger)
     self.scheme.fri_params c.requires.params c.requires.batches
-    (subst (λ cs. AllZip (IsRequested matrices_of) cs requests) c.deref.ensures.value
-    c.in_ok-requests.ensures)
+    (subst (λ cs. AllZip IsRequested cs requests) c.deref.ensures.value c.in_ok-requests.ensures)
     c.in_ok-values.ensures.values c.in_ok-values.ensures.opened.opening
     (c.in_ok-claims.ensures ∙ ap (λ cs. pairwise batch_claimed cs (openings values))
     c.deref-2.ensures.value)
@@ -79,14 +70,11 @@ returns-clause-accepted c =
     let requests = c.in_ok-requests.requests.items in
     let values = c.in_ok-values.values.items in
     let given = c.in_ok-values.ensures.opened in
-    verified _ self.input.now _ base-laws laws is_embedding are_generators refl refl (lit≤ tt)
-    (λ s bits h. number-below s bits)
-    self.scheme.mmcs self.scheme.fri_params.mmcs self.batches.items requests (openings values)
-    (state_of c.args.challenger.now) (state_of c.open.new.challenger) self.scheme.fri_params
-    c.requires.params given.parameters given.arity given.asked c.requires.batches
-    (subst (λ cs. AllZip (IsRequested matrices_of) cs requests) c.deref.ensures.value
-    c.in_ok-requests.ensures)
-    given.answers given.opening
+    verified self.input.now _ self.batches.items requests (openings values)
+    (subst (λ cs. AllZip IsRequested cs requests) c.deref.ensures.value c.in_ok-requests.ensures)
+    self.scheme.mmcs self.scheme.fri_params.mmcs (state_of c.args.challenger.now)
+    (state_of c.open.new.challenger) self.scheme.fri_params c.requires.params given.parameters
+    given.arity given.asked c.requires.batches given.answers given.opening
     (c.in_ok-claims.ensures ∙ ap (λ cs. pairwise batch_claimed cs (openings values))
     c.deref-2.ensures.value)
     c.with_mmcs.ensures
