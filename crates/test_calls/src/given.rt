@@ -1,6 +1,7 @@
 //! What direct calls are given and return, as JSON.
-ghost use Rattle.std.specs.Prelude.{◌≡◌, IfOk};
+ghost use Rattle.std.specs.Prelude.{◌≡◌, ◌≤◌, ◌^◌, IfOk};
 ghost use Rattle.circle_commit.specs.RowMajorMatrix.{height_of};
+ghost use Rattle.circle_domain.specs.Domain.{log_size};
 
 use anyhow::{Context, Result, bail};
 use circle_commit::{Matrix, PolynomialSpace, RowMajorMatrix};
@@ -59,8 +60,7 @@ fn domain_of(alloc: Global, value: &Value) -> Result<Domain> {
 
 /// Refuses a domain that has not 2 to 2^31 points.
 pub fn check_size(domain: Domain) -> Result<()>
-    ensures { IfOk result (λ _. ⟦<CircleDomain<Mersenne31> as PolynomialSpace>⟧.next_point_asks
-        domain) }
+    ensures { IfOk result (λ _. (1 ≤ log_size domain) × (log_size domain ≤ 31)) }
 {
     if domain.log_n() == 0 || domain.log_n() > 31 {
         bail!("the domain has not 2 to 2^31 points");
@@ -90,8 +90,7 @@ pub fn matrix<F: Field + JsonForm>(
 
 /// The rows with the key `rows`, one for each point of a domain.
 pub fn rows_on(alloc: Global, domain: Domain, given: &Value) -> Result<Rows>
-    ensures { IfOk result (λ rows. height_of rows
-        ≡ ⟦<CircleDomain<Mersenne31> as PolynomialSpace>⟧.size domain) }
+    ensures { IfOk result (λ rows. height_of rows ≡ 2 ^ log_size domain) }
 {
     let rows: Rows = matrix(alloc, given, "rows")?;
     if domain.log_n() > 31 || rows.height() != domain.size() {

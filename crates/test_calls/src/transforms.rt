@@ -1,7 +1,8 @@
 //! Cases of the basis, the transform, values off a domain and periodic columns.
-ghost use Rattle.std.specs.Prelude.{◌≤◌, IfOk};
+ghost use Rattle.std.specs.Prelude.{◌≤◌, ◌^◌, IfOk};
 ghost use Rattle.circle_commit.specs.Matrix.{IsPowerOfTwo};
 ghost use Rattle.circle_commit.specs.RowMajorMatrix.{height_of};
+ghost use Rattle.circle_domain.specs.Domain.{log_size};
 
 use crate::given::{
     Domain, Rows, check_size, domain, list_of, matrix, object_of_two, point, point_off, read,
@@ -46,11 +47,9 @@ fn basis(alloc: Global, given: &Value) -> Result<Value> {
 
 // The coefficients, for which a domain has enough points.
 fn coefficients(alloc: Global, domain: Domain, given: &Value) -> Result<Rows>
-    ensures domain { IfOk result (λ _.
-        ⟦<CircleDomain<Mersenne31> as PolynomialSpace>⟧.next_point_asks domain) }
+    ensures domain { IfOk result (λ _. (1 ≤ log_size domain) × (log_size domain ≤ 31)) }
     ensures power { IfOk result (λ rows. IsPowerOfTwo (height_of rows)) }
-    ensures at_most_size { IfOk result (λ rows. height_of rows
-        ≤ ⟦<CircleDomain<Mersenne31> as PolynomialSpace>⟧.size domain) }
+    ensures at_most_size { IfOk result (λ rows. height_of rows ≤ 2 ^ log_size domain) }
 {
     check_size(domain)?;
     let rows: Rows = matrix(alloc, given, "coefficients")?;
