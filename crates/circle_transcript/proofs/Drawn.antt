@@ -44,6 +44,11 @@ module _ {C S F E Com : Type 0} (r : RunMoves C S F E Com) (n : Numbers) (taken 
     pub batch : batch_phase r.base n s taken.claims taken.batch_witness ≡ Ok (alpha, after)
     pub layer : (bivariate, now) ≡ first_layer r after taken.first_layer
 
+  pub at_rounds : {alpha bivariate : List F} {m : Numbers} {after now : S} → m ≡ n →
+      batch_phase r.base n s taken.claims taken.batch_witness ≡ Ok (alpha, after) →
+      (bivariate, now) ≡ first_layer r after taken.first_layer → AtRounds alpha bivariate m now
+  at_rounds same batch layer = record { same = same; after = _; batch = batch; layer = layer }
+
   -- the rounds are played too, and the run comes to its indices
   pub record AtQuery (alpha bivariate : List F) (betas : List (List F)) (m : Numbers) (now : S)
       : Type 0 where
@@ -59,7 +64,7 @@ module _ {C S F E Com : Type 0} (r : RunMoves C S F E Com) (n : Numbers) (taken 
   at_query alpha bivariate betas k m s2 s3 at same played = record {
     same = same ∙ at.same;
     begun = s2;
-    before = record { same = refl; after = at.after; batch = at.batch; layer = at.layer };
+    before = at_rounds refl at.batch at.layer;
     rounds =
         subst (λ (v : Numbers). play_rounds r v.commit_pow_bits s2 taken.rounds ≡ Ok (betas, s3))
         at.same played;
@@ -95,8 +100,7 @@ module _ {C S F E Com : Type 0} (r : RunMoves C S F E Com) (n : Numbers) (taken 
       AtRounds alpha bivariate m now → (p : PowPhase) →
       play_rounds r m.commit_pow_bits now taken.rounds ≡ Err p → draw_seeded r n taken s ≡ Err p
   fails_rounds alpha bivariate m now at p failed =
-      rest_is alpha bivariate now
-      (record { same = refl; after = at.after; batch = at.batch; layer = at.layer })
+      rest_is alpha bivariate now (at_rounds refl at.batch at.layer)
       ∙ ap (λ t. and_then t (from_query r n taken s alpha bivariate))
       (subst (λ (v : Numbers). play_rounds r v.commit_pow_bits now taken.rounds ≡ Err p) at.same
       failed)

@@ -8,9 +8,11 @@ use Rattle.std.proofs.lemmas.Option.{slice_get_read}
 use Rattle.circle_challenger.specs.Step.{Step}
 use Rattle.circle_challenger.specs.Due.{HasPlayed}
 use Rattle.circle_transcript.specs.Shape.{round_steps, rounds_steps}
+use Rattle.circle_transcript.specs.declared.transcript.CircleTranscript.{CircleTranscript}
 use Rattle.circle_transcript.specs.declared.transcript.Numbers.{Numbers}
 use Rattle.circle_transcript.specs.Numbers.{indices_steps}
 use Rattle.circle_transcript.specs.Runs.{NonePasses, HasStuckRound}
+use Rattle.circle_transcript.specs.Transcript.{IsSame}
 use Rattle.circle_transcript.proofs.Playing.{take_read}
 use Rattle.circle_challenger.specs.Moves.{RunMoves}
 use Rattle.circle_commit.specs.declared.params.PowPhase.{PowPhase}
@@ -210,3 +212,11 @@ indices_due degree rounds n m k due left same same_too is played =
     ∙ ap (λ (v : Numbers). rounds_steps degree v.commit_pow_bits rounds
     ++ indices_steps degree n) (sym same))
     ∙ ap (indices_steps degree) (sym (same_too ∙ same)) ∙ sym (append-nil (indices_steps degree k))
+
+-- what two calls after one another leave the same
+pub same_on : {C F E Com Side S : Type 0} {g d : _} {t u v : CircleTranscript C F E Com Side S g d}
+    → IsSame t u → IsSame u v → IsSame t v
+same_on one other = record {
+  challenger = other.challenger ∙ one.challenger;
+  shape = other.shape ∙ one.shape;
+}

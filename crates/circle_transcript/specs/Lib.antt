@@ -7,3 +7,4 @@ pub mod Claims
 pub mod Transcript
 pub mod Rows
 pub mod Runs
+pub mod CircleRun

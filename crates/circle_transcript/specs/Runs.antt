@@ -18,7 +18,6 @@ use Rattle.circle_transcript.specs.declared.transcript.Numbers.{Numbers}
 use Rattle.circle_transcript.specs.Claims.{claims_of}
 use Rattle.circle_transcript.specs.Draw.{Claim, Taken, taken, Drawn, claimed, layered, closed}
 use Rattle.circle_transcript.specs.Draw.{after_rounds, rounds_pass, play_rounds, draw_seeded, draw}
-use Rattle.circle_transcript.specs.Draw.{seeded}
 use Rattle.circle_transcript.specs.Failure.{phase_of}
 use Rattle.circle_transcript.specs.Numbers.{numbers_of, difficulty_of}
 use Rattle.circle_transcript.specs.ShapeOf.{shape_of}
@@ -129,25 +128,10 @@ module _ {C S F E Com : Type 0} (r : RunMoves C S F E Com) where
   Draws shape taken old d new =
       draw r (shape_of shape) taken (r.base.state old) ≡ Ok (drawn_leaving d new)
 
-  -- there are witnesses with which the run of this shape draws these from the first challenger, and
-  -- leaves the other
-  abbrev pub DrawsWithSome : {g : _} → CirclePcsShape → List (Point E g × Bor (List E))
-      → CircleMessages E Com → C → CircleDraws E → C → Type 0
-  DrawsWithSome shape claims messages old d new =
-      (w : CircleWitnesses F) × Draws shape (taken_of claims messages w) old d new
-
   -- the run of this shape fails where a witness doesn't pass
   abbrev pub Misses : CirclePcsShape → Taken F E Com → C → CircleTranscriptFailure → Type 0
   Misses shape taken old e =
       IsMiss (numbers_of (shape_of shape)) (draw r (shape_of shape) taken (r.base.state old)) e
-
-  -- the run of this shape fails where no witness passes
-  abbrev pub FindsNone : {g : _} → CirclePcsShape → List (Point E g × Bor (List E))
-      → CircleMessages E Com → C
-      → CircleTranscriptFailure → Type 0
-  FindsNone shape claims messages old e =
-      IsStuck (numbers_of (shape_of shape)) (claims_of claims) messages
-      (seeded r (shape_of shape) (r.base.state old)) e
 
 -- likewise for the rest of a run, from a transcript whose seed was absorbed
 module _ {C F E Com Side S : Type 0} {g d : _} (old : CircleTranscript C F E Com Side S g d) where

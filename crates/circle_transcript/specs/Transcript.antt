@@ -52,12 +52,9 @@ module _ {C F EF Com Side S : Type 0} {g d : _} (t : CircleTranscript C F EF Com
     pub challenger : new.challenger.ghost_name ≡ t.challenger.ghost_name
     pub shape : new.shape ≡ t.shape
 
-  -- the failure where no witness passes in this phase, and where the one at hand doesn't
+  -- the failure where no witness passes in this phase
   abbrev pub no_witness : PowPhase → CircleTranscriptFailure
   no_witness phase = NoWitness phase (difficulty_of t.shape phase)
-
-  abbrev pub bad_witness : PowPhase → CircleTranscriptFailure
-  bad_witness phase = PowWitness phase (difficulty_of t.shape phase)
 
   -- what a call returned, with the state after it
   abbrev pub outcome : {A B : Type 0} → (A → B) → Result A CircleTranscriptFailure

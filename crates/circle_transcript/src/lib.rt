@@ -52,16 +52,17 @@
 //! Its files:
 //!
 //! - In `src/`, `shape.rt`: what describes a run, its steps and its seed; `moves.rt`: what a
-//!   challenger is to a run; `transcript.rt`: both sides, whose calls are made of the steps in
-//!   `play.rt`; `run.rt`: whole runs.
+//!   challenger is to a run; `described.rt`: a run by its shape; `transcript.rt`: both sides, whose
+//!   calls are made of the steps in `play.rt`; `run.rt`: whole runs.
 //! - In `specs/`, `Shape`, `Draw`: the definitions, of which a run's draw is its phases one after
-//!   another. `ShapeOf`, `Numbers`, `Claims`, `Transcript`, `Failure`: what the types are; `Runs`:
-//!   what is drawn, missed or found nowhere over a run; `Rows`: examples.
+//!   another. `ShapeOf`, `Numbers`, `Claims`, `Transcript`, `Failure`: what the types are; `Runs`,
+//!   `CircleRun`: what is drawn, missed or found nowhere over a run; `Rows`: examples.
 //! - In `proofs/`, `Seeds`: a seed determines the shape; `Steps`, `Playing`, `Due`, `Labels`;
 //!   `ByHand`: steps by hand; `Phases`: what phases say of the tests of their witnesses; `Runs`,
 //!   `Drawn`: whole runs.
 #![tactic(auto)]
 
+pub mod described;
 pub mod failure;
 pub mod moves;
 mod play;
@@ -69,6 +70,7 @@ pub mod run;
 pub mod shape;
 pub mod transcript;
 
+pub use described::CircleRun;
 pub use failure::CircleTranscriptFailure;
 pub use moves::TranscriptMoves;
 pub use run::{CircleDraws, CircleMessages, CircleWitnesses, both_runs, prover_run, verifier_run};

@@ -10,14 +10,15 @@ ghost use Rattle.circle_transcript.specs.Claims.{claims_of};
 ghost use Rattle.circle_transcript.specs.Numbers.{numbers_of, run_steps};
 ghost use Rattle.circle_transcript.specs.Transcript.{current, due, numbers, IsSame};
 ghost use Rattle.circle_transcript.specs.Transcript.{steps_of_rounds};
-ghost use Rattle.circle_transcript.specs.Runs.{ArePlayable, taken_of, drawn_leaving, Draws};
-ghost use Rattle.circle_transcript.specs.Runs.{DrawsWithSome, Misses, FindsNone, DrawsFrom, MissesFrom};
+ghost use Rattle.circle_transcript.specs.CircleRun.{IsDrawn, IsDrawnWithSome, AreAlike, FindsNone};
+ghost use Rattle.circle_transcript.specs.Runs.{ArePlayable, taken_of, Draws, Misses};
+ghost use Rattle.circle_transcript.specs.Runs.{DrawsFrom, MissesFrom};
 ghost use Rattle.circle_transcript.specs.Runs.{FindsNoneFrom, MissesInRounds, FindsNoneInRounds};
 ghost use Rattle.circle_transcript.specs.Runs.{HavePlayed};
 
 use crate::{
-    CirclePcsShape, CircleProverTranscript, CircleTranscriptFailure, CircleVerifierTranscript,
-    OpeningClaim,
+    CirclePcsShape, CircleProverTranscript, CircleRun, CircleTranscriptFailure,
+    CircleVerifierTranscript, OpeningClaim,
 };
 use circle_challenger::{CanObserve, CanSample, GrindingChallenger, RunChallenger};
 use circle_field::{ExtensionField, Field};
@@ -282,35 +283,33 @@ where
 /// and the messages, looks for the witnesses, and draws the challenges. Fails with `NoWitness`
 /// where no witness passes, and with `Memory` where memory is refused.
 ///
-/// Requires claims of the described numbers of values, a commitment for each round, as many
-/// coefficients as the shape says, and difficulties, a number of bits of an index and a
-/// `log_final_poly_len` of at most 63.
+/// Requires claims of the described numbers of values, a commitment for each round, and as many
+/// coefficients as the shape says.
 pub fn prover_run<F: Field, EF: ExtensionField<F>, C, Com>(
     alloc: Global,
     challenger: &mut C,
-    shape: CirclePcsShape,
+    run: CircleRun<C, F, EF, Com>,
     claims: &[OpeningClaim<EF>],
     messages: &CircleMessages<EF, Com>,
 ) -> Result<(CircleDraws<EF>, CircleWitnesses<F>), CircleTranscriptFailure>
 where
     C: CanSample<F> + GrindingChallenger<F> + CanObserve<Com>,
-    requires claims { widths_of (claims_of claims.now) ≡ claimed_widths (shape_of shape) }
-    requires rounds { length messages.now.commitments.now ≡ shape.num_commit_rounds }
-    requires small { ArePlayable (numbers_of (shape_of shape)) }
-    requires count { length messages.now.final_poly.now ≡ 2 ^ shape.log_final_poly_len }
+    requires claims { widths_of (claims_of claims.now) ≡ claimed_widths (shape_of run.shape) }
+    requires rounds { length messages.now.commitments.now ≡ run.shape.num_commit_rounds }
+    requires count { length messages.now.final_poly.now ≡ 2 ^ run.shape.log_final_poly_len }
     ensures count { IfOk result (λ r.
         length r.1.rounds.items ≡ length messages.now.commitments.now) }
-    ensures draws { let m = ⟦<C as RunChallenger<F, EF, Com>>⟧.run in IfOk result (λ r.
-        Draws m shape (taken_of claims.now messages.now r.1) challenger.old r.0 challenger.new) }
-    ensures below { IfOk result (λ r. All (λ i. i < 2 ^ shape.index_bits) r.0.indices.items) }
-    ensures easy_batch { IfOk result (λ r. shape.batch_pow_bits ≡ 0 → r.1.batch ≡ F.ops.zero) }
-    ensures easy_rounds { IfOk result (λ r. shape.commit_pow_bits ≡ 0 →
+    ensures draws { IfOk result (λ r. IsDrawn run (taken_of claims.now messages.now r.1)
+        challenger.old r.0 challenger.new) }
+    ensures below { IfOk result (λ r. All (λ i. i < 2 ^ run.shape.index_bits) r.0.indices.items) }
+    ensures easy_batch { IfOk result (λ r. run.shape.batch_pow_bits ≡ 0 → r.1.batch ≡ F.ops.zero) }
+    ensures easy_rounds { IfOk result (λ r. run.shape.commit_pow_bits ≡ 0 →
         All (λ w. w ≡ F.ops.zero) r.1.rounds.items) }
-    ensures easy_query { IfOk result (λ r. shape.query_pow_bits ≡ 0 → r.1.query ≡ F.ops.zero) }
-    ensures failure { let m = ⟦<C as RunChallenger<F, EF, Com>>⟧.run in IfErr result
-        (IsMemoryOr (FindsNone m shape claims.now messages.now challenger.old)) }
+    ensures easy_query { IfOk result (λ r. run.shape.query_pow_bits ≡ 0 → r.1.query ≡ F.ops.zero) }
+    ensures failure { IfErr result
+        (IsMemoryOr (FindsNone run claims.now messages.now challenger.old)) }
 {
-    let seeded = CircleProverTranscript::<C, F, EF, Com>::seeded(alloc, challenger, shape)?;
+    let seeded = CircleProverTranscript::<C, F, EF, Com>::seeded(alloc, challenger, run.shape)?;
     let mut transcript = CircleProverTranscript::<C, F, EF, Com>::of_seeded(challenger, seeded);
     match grinding_run(alloc, &mut transcript, claims, messages) {
         Ok(draws) => {
@@ -332,28 +331,26 @@ pub fn both_runs<F: Field, EF: ExtensionField<F>, C, Com>(
     alloc: Global,
     prover: &mut C,
     verifier: &mut C,
-    shape: CirclePcsShape,
+    run: CircleRun<C, F, EF, Com>,
     claims: &[OpeningClaim<EF>],
     messages: &CircleMessages<EF, Com>,
 ) -> Result<(CircleDraws<EF>, CircleDraws<EF>), CircleTranscriptFailure>
 where
     C: CanSample<F> + GrindingChallenger<F> + CanObserve<Com>,
     requires equal { C.state prover.old ≡ C.state verifier.old }
-    requires claims { widths_of (claims_of claims.now) ≡ claimed_widths (shape_of shape) }
-    requires rounds { length messages.now.commitments.now ≡ shape.num_commit_rounds }
-    requires small { ArePlayable (numbers_of (shape_of shape)) }
-    requires count { length messages.now.final_poly.now ≡ 2 ^ shape.log_final_poly_len }
-    ensures draws { let m = ⟦<C as RunChallenger<F, EF, Com>>⟧.run in IfOk result (λ r.
-        DrawsWithSome m shape claims.now messages.now prover.old r.0 prover.new) }
-    ensures redraws { let m = ⟦<C as RunChallenger<F, EF, Com>>⟧.run in IfOk result (λ r.
-        DrawsWithSome m shape claims.now messages.now verifier.old r.1 verifier.new) }
-    ensures alike { let m = ⟦<C as RunChallenger<F, EF, Com>>⟧.run in IfOk result (λ r.
-        drawn_leaving m r.1 verifier.new ≡ drawn_leaving m r.0 prover.new) }
-    ensures failure { let m = ⟦<C as RunChallenger<F, EF, Com>>⟧.run in IfErr result
-        (IsMemoryOr (FindsNone m shape claims.now messages.now prover.old)) }
+    requires claims { widths_of (claims_of claims.now) ≡ claimed_widths (shape_of run.shape) }
+    requires rounds { length messages.now.commitments.now ≡ run.shape.num_commit_rounds }
+    requires count { length messages.now.final_poly.now ≡ 2 ^ run.shape.log_final_poly_len }
+    ensures draws { IfOk result (λ r.
+        IsDrawnWithSome run claims.now messages.now prover.old r.0 prover.new) }
+    ensures redraws { IfOk result (λ r.
+        IsDrawnWithSome run claims.now messages.now verifier.old r.1 verifier.new) }
+    ensures alike { IfOk result (λ r. AreAlike run r.1 verifier.new r.0 prover.new) }
+    ensures failure { IfErr result
+        (IsMemoryOr (FindsNone run claims.now messages.now prover.old)) }
 {
-    let copy = shape.try_clone(alloc)?;
+    let copy = CircleRun::new(run.shape.try_clone(alloc)?);
     let (drawn, witnesses) = prover_run(alloc, prover, copy, claims, messages)?;
-    let redrawn = verifier_run(alloc, verifier, shape, claims, messages, &witnesses)?;
+    let redrawn = verifier_run(alloc, verifier, run.shape, claims, messages, &witnesses)?;
     Ok((drawn, redrawn))
 }

@@ -88,6 +88,7 @@ pub use circle_round_trip::{BatchAtPoints, RoundTripError};
 pub use commit::{first_rows, heights_match_domains};
 pub use pcs::CirclePcs;
 pub use transcript::{
-    CircleDraws, CirclePcsShape, CircleProverTranscript, CircleTranscript, CircleTranscriptFailure,
-    CircleVerifierTranscript, CircleWitnesses, OpeningClaim, both_runs, prover_run, verifier_run,
+    CircleDraws, CirclePcsShape, CircleProverTranscript, CircleRun, CircleTranscript,
+    CircleTranscriptFailure, CircleVerifierTranscript, CircleWitnesses, OpeningClaim, both_runs,
+    prover_run, verifier_run,
 };

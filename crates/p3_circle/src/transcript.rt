@@ -1,7 +1,7 @@
 //! The Fiat-Shamir transcript of the scheme: what a run is described by, and both sides of it.
 
 pub use circle_transcript::{
-    CircleDraws, CircleMessages, CirclePcsShape, CircleProverTranscript, CircleTranscript,
-    CircleTranscriptFailure, CircleVerifierTranscript, CircleWitnesses, OpeningClaim, both_runs,
-    prover_run, verifier_run,
+    CircleDraws, CircleMessages, CirclePcsShape, CircleProverTranscript, CircleRun,
+    CircleTranscript, CircleTranscriptFailure, CircleVerifierTranscript, CircleWitnesses,
+    OpeningClaim, both_runs, prover_run, verifier_run,
 };

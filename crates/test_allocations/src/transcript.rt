@@ -10,7 +10,7 @@ use circle_challenger::{CanSample, Sha256Challenger};
 use circle_commit::FriParameters;
 use circle_field::{Cubic, Mersenne31};
 use circle_transcript::CircleMessages;
-use p3_circle::{CirclePcsShape, CircleProverTranscript, Neutral, Point, prover_run};
+use p3_circle::{CirclePcsShape, CircleProverTranscript, CircleRun, Neutral, Point, prover_run};
 use std::alloc::{AllocError, Global};
 
 /// The shape of a run of one round over one claim of one column.
@@ -80,7 +80,7 @@ pub fn has_seed_of(alloc: Global, stage: Stage) -> Result<Told> {
 
 /// `prover_run` over one claim.
 pub fn run(alloc: Global, stage: Stage) -> Result<Told> {
-    let shape = shape(alloc)?;
+    let run = CircleRun::new(shape(alloc)?);
     let (values, final_poly) = ([cubic([5, 6, 7])], [cubic([1, 2, 3])]);
     let claims = [(Point::<Cubic>::ZERO, values.as_slice())];
     let messages = CircleMessages {
@@ -90,6 +90,6 @@ pub fn run(alloc: Global, stage: Stage) -> Result<Told> {
     };
     let mut challenger = Sha256Challenger::new();
     stage.begin()?;
-    let (draws, _) = prover_run(alloc, &mut challenger, shape, claims.as_slice(), &messages)?;
+    let (draws, _) = prover_run(alloc, &mut challenger, run, claims.as_slice(), &messages)?;
     Ok(told(draws.indices.len()))
 }

@@ -9,8 +9,8 @@ use circle_commit::{FriParameters, PowPhase};
 use circle_field::{Cubic, ExtensionField, Field, Mersenne31};
 use circle_point::{Neutral, Point};
 use circle_transcript::{
-    CircleDraws, CircleMessages, CirclePcsShape, CircleTranscriptFailure, CircleWitnesses,
-    both_runs, prover_run, verifier_run,
+    CircleDraws, CircleMessages, CirclePcsShape, CircleRun, CircleTranscriptFailure,
+    CircleWitnesses, both_runs, prover_run, verifier_run,
 };
 use std::alloc::Global;
 use std::fmt::InlineText;
@@ -150,7 +150,7 @@ fn drawn_by_both(
         commit: 3,
         query: 4,
     };
-    let shape = shape(rt, alloc, 2, bits);
+    let run = CircleRun::new(shape(rt, alloc, 2, bits));
     let values = [cubic(5, 6, 7)];
     let claims = [(Point::<Cubic>::ZERO, values.as_slice())];
     let final_poly = [cubic(1, 2, 3)];
@@ -159,7 +159,7 @@ fn drawn_by_both(
         commitments: &[[9; 32], [8; 32]],
         final_poly: final_poly.as_slice(),
     };
-    both_runs(alloc, prover, verifier, shape, claims.as_slice(), &messages).expect(rt, "no run")
+    both_runs(alloc, prover, verifier, run, claims.as_slice(), &messages).expect(rt, "no run")
 }
 
 /// Asserts that both sides draw the same where the batching challenge has this difficulty.
@@ -299,7 +299,7 @@ const NO_WITNESS: (PowPhase, &str) = (
 /// Why the prover of a run over one claim fails, where no witness passes the 4 bits of the batching
 /// challenge.
 fn failure_of_no_witness(rt: &impl Abort, alloc: Global) -> CircleTranscriptFailure {
-    let shape = shape(rt, alloc, 0, Difficulties { batch: 4, ..NONE });
+    let run = CircleRun::new(shape(rt, alloc, 0, Difficulties { batch: 4, ..NONE }));
     let values = [cubic(5, 6, 7)];
     let claims = [(Point::<Cubic>::ZERO, values.as_slice())];
     let final_poly = [cubic(1, 2, 3)];
@@ -309,8 +309,8 @@ fn failure_of_no_witness(rt: &impl Abort, alloc: Global) -> CircleTranscriptFail
         final_poly: final_poly.as_slice(),
     };
     let mut challenger = Stubborn { taken: 0 };
-    let run = prover_run(alloc, &mut challenger, shape, claims.as_slice(), &messages);
-    run.err().expect(rt, "a run")
+    let played = prover_run(alloc, &mut challenger, run, claims.as_slice(), &messages);
+    played.err().expect(rt, "a run")
 }
 
 #[test]

@@ -10,7 +10,7 @@ use circle_commit::{
     RowMajorMatrix, are_below, heights_are_powers_of_two,
 };
 use circle_field::{Cubic, ExtensionField, Field, Mersenne31};
-use circle_transcript::{CircleMessages, CirclePcsShape, prover_run};
+use circle_transcript::{CircleMessages, CirclePcsShape, CircleRun, prover_run};
 use p3_circle::{
     CircleCommitPhaseMultiStep, CircleDomain, CircleFriProof, CircleInputProof, CirclePcs,
     CirclePcsProof, Neutral, Point,
@@ -245,7 +245,7 @@ where
     let (draws, _) = prover_run::<Mersenne31, Cubic, C, Com>(
         alloc,
         challenger,
-        shape,
+        CircleRun::new(shape),
         claims.as_slice(),
         messages,
     )?;

@@ -5,7 +5,8 @@ use circle_challenger::{CanSample, Sha256Challenger};
 use circle_field::{Cubic, Mersenne31};
 use circle_point::Point;
 use circle_transcript::{
-    CircleMessages, CirclePcsShape, CircleTranscriptFailure, CircleVerifierTranscript, prover_run,
+    CircleMessages, CirclePcsShape, CircleRun, CircleTranscriptFailure, CircleVerifierTranscript,
+    prover_run,
 };
 use std::alloc::Global;
 use std::process::Abort;
@@ -15,7 +16,7 @@ use test_schemes::expect;
 /// projective line.
 fn batching_challenge(rt: &impl Abort, alloc: Global, t: u64, value: u64) -> Cubic {
     let point = Point::from_projective_line(cubic(t, 0, 0)).expect(rt, "no point");
-    let shape = shape(rt, alloc, 0, NONE);
+    let run = CircleRun::new(shape(rt, alloc, 0, NONE));
     let values = [cubic(value, 0, 0)];
     let claims = [(point, values.as_slice())];
     let commitments: [[u8; 32]; 0] = [];
@@ -26,8 +27,8 @@ fn batching_challenge(rt: &impl Abort, alloc: Global, t: u64, value: u64) -> Cub
         commitments: commitments.as_slice(),
         final_poly: final_poly.as_slice(),
     };
-    let run = prover_run(alloc, &mut challenger, shape, claims.as_slice(), &messages);
-    run.expect(rt, "no run").0.alpha
+    let played = prover_run(alloc, &mut challenger, run, claims.as_slice(), &messages);
+    played.expect(rt, "no run").0.alpha
 }
 
 /// Asserts the challenge that batches a claim.

@@ -15,8 +15,8 @@ use Rattle.circle_transcript.specs.declared.transcript.Numbers.{Numbers}
 use Rattle.circle_transcript.specs.Transcript.{numbers, outcome, run_of, state_of}
 use Rattle.circle_transcript.proofs.Playing.{handed_on}
 use Rattle.circle_transcript.proofs.Phases.{gave, missed, not_refused, same_failure}
-use Rattle.circle_transcript.proofs.Runs.{indices_due}
-use Rattle.circle_transcript.proofs.Drawn.{AtRounds, at_query, miss_moved, fails_batch}
+use Rattle.circle_transcript.proofs.Runs.{indices_due, same_on}
+use Rattle.circle_transcript.proofs.Drawn.{at_rounds, at_query, miss_moved, fails_batch}
 use Rattle.circle_transcript.proofs.Drawn.{fails_rounds}
 use Rattle.circle_transcript.proofs.Drawn.{fails_query, all_drawn}
 use Rattle.circle_transcript.proofs.run.checking_run.Goals as goal
@@ -53,17 +53,9 @@ returns-in_err-betas-clause-failure g c =
     let all = taken_beside c.args.claims.now c.args.messages.now c.args.witnesses.now
     c.deref.result.now in
     let same2 = c.first_layer-bivariate.ensures.same.shape ∙ c.batch_phase.ensures.same.shape in
-    let second : AtRounds r n all s (coefficients c.in_ok-alpha.alpha)
-    (coefficients c.first_layer-bivariate.result) (numbers c.first_layer-bivariate.new.self)
-    (state_of c.first_layer-bivariate.new.self) =
-    record {
-      same = same2;
-      after = state_of c.batch_phase.new.self;
-      batch =
-          gave n _ _ (ap (outcome c.batch_phase.new.self coefficients) (sym c.in_ok-alpha.was)
-          ∙ c.batch_phase.ensures.played);
-      layer = c.first_layer-bivariate.ensures.played;
-    } in
+    let second = at_rounds r n all s same2
+    (gave n _ _ (ap (outcome c.batch_phase.new.self coefficients) (sym c.in_ok-alpha.was)
+    ∙ c.batch_phase.ensures.played)) c.first_layer-bivariate.ensures.played in
     let e = c.in_err-betas.field-0.0 in
     subst
     (λ v. IfErr c.from_residual-in_err-betas.result
@@ -112,17 +104,9 @@ returns-in_err-indices-clause-failure g c =
     let all = taken_beside c.args.claims.now c.args.messages.now c.args.witnesses.now
     c.deref.result.now in
     let same2 = c.first_layer-bivariate.ensures.same.shape ∙ c.batch_phase.ensures.same.shape in
-    let second : AtRounds r n all s (coefficients c.in_ok-alpha.alpha)
-    (coefficients c.first_layer-bivariate.result) (numbers c.first_layer-bivariate.new.self)
-    (state_of c.first_layer-bivariate.new.self) =
-    record {
-      same = same2;
-      after = state_of c.batch_phase.new.self;
-      batch =
-          gave n _ _ (ap (outcome c.batch_phase.new.self coefficients) (sym c.in_ok-alpha.was)
-          ∙ c.batch_phase.ensures.played);
-      layer = c.first_layer-bivariate.ensures.played;
-    } in
+    let second = at_rounds r n all s same2
+    (gave n _ _ (ap (outcome c.batch_phase.new.self coefficients) (sym c.in_ok-alpha.was)
+    ∙ c.batch_phase.ensures.played)) c.first_layer-bivariate.ensures.played in
     let third = at_query r n all s _ _ _ (numbers c.checking_rounds.new.transcript) _ _ _ second
     c.checking_rounds.ensures.same.shape c.in_ok-betas.ensures.played in
     let e = c.in_err-indices.field-0.0 in
@@ -157,17 +141,9 @@ returns-clause-draws g c =
     let all = taken_beside c.args.claims.now c.args.messages.now c.args.witnesses.now
     c.deref.result.now in
     let same2 = c.first_layer-bivariate.ensures.same.shape ∙ c.batch_phase.ensures.same.shape in
-    let second : AtRounds r n all s (coefficients c.in_ok-alpha.alpha)
-    (coefficients c.first_layer-bivariate.result) (numbers c.first_layer-bivariate.new.self)
-    (state_of c.first_layer-bivariate.new.self) =
-    record {
-      same = same2;
-      after = state_of c.batch_phase.new.self;
-      batch =
-          gave n _ _ (ap (outcome c.batch_phase.new.self coefficients) (sym c.in_ok-alpha.was)
-          ∙ c.batch_phase.ensures.played);
-      layer = c.first_layer-bivariate.ensures.played;
-    } in
+    let second = at_rounds r n all s same2
+    (gave n _ _ (ap (outcome c.batch_phase.new.self coefficients) (sym c.in_ok-alpha.was)
+    ∙ c.batch_phase.ensures.played)) c.first_layer-bivariate.ensures.played in
     let third = at_query r n all s _ _ _ (numbers c.checking_rounds.new.transcript) _ _ _ second
     c.checking_rounds.ensures.same.shape c.in_ok-betas.ensures.played in
     let drawn =
@@ -240,28 +216,19 @@ pub returns-in_err-alpha-clause-same : goal.returns-in_err-alpha-clause-same
 returns-in_err-alpha-clause-same g c = c.batch_phase.ensures.same
 
 pub returns-in_err-betas-clause-same : goal.returns-in_err-betas-clause-same
-returns-in_err-betas-clause-same g c = record {
-  challenger = c.checking_rounds.ensures.same.challenger
-      ∙ c.first_layer-bivariate.ensures.same.challenger ∙ c.batch_phase.ensures.same.challenger;
-  shape = c.checking_rounds.ensures.same.shape ∙ c.first_layer-bivariate.ensures.same.shape
-      ∙ c.batch_phase.ensures.same.shape;
-}
+returns-in_err-betas-clause-same g c =
+    same_on (same_on c.batch_phase.ensures.same c.first_layer-bivariate.ensures.same)
+    c.checking_rounds.ensures.same
 
 pub returns-in_err-indices-clause-same : goal.returns-in_err-indices-clause-same
-returns-in_err-indices-clause-same g c = record {
-  challenger = c.query_phase.ensures.same.challenger ∙ c.checking_rounds.ensures.same.challenger
-      ∙ c.first_layer-bivariate.ensures.same.challenger ∙ c.batch_phase.ensures.same.challenger;
-  shape = c.query_phase.ensures.same.shape ∙ c.checking_rounds.ensures.same.shape
-      ∙ c.first_layer-bivariate.ensures.same.shape ∙ c.batch_phase.ensures.same.shape;
-}
+returns-in_err-indices-clause-same g c =
+    same_on (same_on c.batch_phase.ensures.same c.first_layer-bivariate.ensures.same)
+    (same_on c.checking_rounds.ensures.same c.query_phase.ensures.same)
 
 pub returns-clause-same : goal.returns-clause-same
-returns-clause-same g c = record {
-  challenger = c.query_phase.ensures.same.challenger ∙ c.checking_rounds.ensures.same.challenger
-      ∙ c.first_layer-bivariate.ensures.same.challenger ∙ c.batch_phase.ensures.same.challenger;
-  shape = c.query_phase.ensures.same.shape ∙ c.checking_rounds.ensures.same.shape
-      ∙ c.first_layer-bivariate.ensures.same.shape ∙ c.batch_phase.ensures.same.shape;
-}
+returns-clause-same g c =
+    same_on (same_on c.batch_phase.ensures.same c.first_layer-bivariate.ensures.same)
+    (same_on c.checking_rounds.ensures.same c.query_phase.ensures.same)
 
 pub returns-clause-below : goal.returns-clause-below
 returns-clause-below g c =

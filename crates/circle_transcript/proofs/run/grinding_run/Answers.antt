@@ -12,8 +12,8 @@ use Rattle.circle_transcript.specs.declared.transcript.Numbers.{Numbers}
 use Rattle.circle_transcript.specs.Transcript.{numbers, run_of, state_of}
 use Rattle.circle_transcript.proofs.Playing.{handed_on, unwrap_none}
 use Rattle.circle_transcript.proofs.Phases.{missed_in}
-use Rattle.circle_transcript.proofs.Runs.{indices_due}
-use Rattle.circle_transcript.proofs.Drawn.{AtRounds, at_query, stuck_in, stuck_rounds}
+use Rattle.circle_transcript.proofs.Runs.{indices_due, same_on}
+use Rattle.circle_transcript.proofs.Drawn.{at_rounds, at_query, stuck_in, stuck_rounds}
 use Rattle.circle_transcript.proofs.Drawn.{stuck_query, all_drawn, drawn_parts}
 use Rattle.circle_transcript.proofs.run.grinding_run.Goals as goal
 
@@ -44,16 +44,8 @@ returns-in_err-betas-clause-failure g c =
     let messages = c.args.messages.now in
     let all = taken_with claims messages (unwrap_or c.in_ok-alpha.batch zero) [] zero in
     let same2 = c.first_layer-bivariate.ensures.same.shape ∙ c.batch_phase.ensures.same.shape in
-    let coefficients = g.EF.ExtensionField.coefficients in
-    let second : AtRounds r n all s (coefficients c.in_ok-alpha.alpha)
-    (coefficients c.first_layer-bivariate.result) (numbers c.first_layer-bivariate.new.self)
-    (state_of c.first_layer-bivariate.new.self) =
-    record {
-      same = same2;
-      after = state_of c.batch_phase.new.self;
-      batch = c.in_ok-alpha.ensures.played;
-      layer = c.first_layer-bivariate.ensures.played;
-    } in
+    let second = at_rounds r n all s same2 c.in_ok-alpha.ensures.played
+    c.first_layer-bivariate.ensures.played in
     handed_on c.from_residual-in_err-betas.result c.in_err-betas.field-0.0
     (λ e. (e ≡ Memory) ⊎ IsStuck r n claims messages s e) c.from_residual-in_err-betas.ensures.1
     (elim c.in_err-betas.ensures.failure [
@@ -98,16 +90,8 @@ returns-in_err-indices-clause-failure g c =
     let all = taken_with claims messages (unwrap_or c.in_ok-alpha.batch zero)
     c.in_ok-betas.rounds.items zero in
     let same2 = c.first_layer-bivariate.ensures.same.shape ∙ c.batch_phase.ensures.same.shape in
-    let coefficients = g.EF.ExtensionField.coefficients in
-    let second : AtRounds r n all s (coefficients c.in_ok-alpha.alpha)
-    (coefficients c.first_layer-bivariate.result) (numbers c.first_layer-bivariate.new.self)
-    (state_of c.first_layer-bivariate.new.self) =
-    record {
-      same = same2;
-      after = state_of c.batch_phase.new.self;
-      batch = c.in_ok-alpha.ensures.played;
-      layer = c.first_layer-bivariate.ensures.played;
-    } in
+    let second = at_rounds r n all s same2 c.in_ok-alpha.ensures.played
+    c.first_layer-bivariate.ensures.played in
     let third = at_query r n all s _ _ _ (numbers c.grinding_rounds.new.transcript) _ _ _ second
     c.grinding_rounds.ensures.same.shape c.in_ok-betas.ensures.played in
     handed_on c.from_residual-in_err-indices.result c.in_err-indices.field-0.0
@@ -138,18 +122,11 @@ returns-clause-draws g c =
     let all = taken_with claims messages (unwrap_or c.in_ok-alpha.batch zero)
     c.in_ok-betas.rounds.items (unwrap_or c.in_ok-indices.query zero) in
     let same2 = c.first_layer-bivariate.ensures.same.shape ∙ c.batch_phase.ensures.same.shape in
-    let coefficients = g.EF.ExtensionField.coefficients in
-    let second : AtRounds r n all s (coefficients c.in_ok-alpha.alpha)
-    (coefficients c.first_layer-bivariate.result) (numbers c.first_layer-bivariate.new.self)
-    (state_of c.first_layer-bivariate.new.self) =
-    record {
-      same = same2;
-      after = state_of c.batch_phase.new.self;
-      batch = c.in_ok-alpha.ensures.played;
-      layer = c.first_layer-bivariate.ensures.played;
-    } in
+    let second = at_rounds r n all s same2 c.in_ok-alpha.ensures.played
+    c.first_layer-bivariate.ensures.played in
     let third = at_query r n all s _ _ _ (numbers c.grinding_rounds.new.transcript) _ _ _ second
     c.grinding_rounds.ensures.same.shape c.in_ok-betas.ensures.played in
+    let coefficients = g.EF.ExtensionField.coefficients in
     let drawn =
     drawn_parts (coefficients c.in_ok-alpha.alpha) (coefficients c.first_layer-bivariate.result)
     (map coefficients c.in_ok-betas.betas.items) c.in_ok-indices.indices.items
@@ -234,28 +211,19 @@ pub returns-in_err-alpha-clause-same : goal.returns-in_err-alpha-clause-same
 returns-in_err-alpha-clause-same g c = c.batch_phase.ensures.same
 
 pub returns-in_err-betas-clause-same : goal.returns-in_err-betas-clause-same
-returns-in_err-betas-clause-same g c = record {
-  challenger = c.grinding_rounds.ensures.same.challenger
-      ∙ c.first_layer-bivariate.ensures.same.challenger ∙ c.batch_phase.ensures.same.challenger;
-  shape = c.grinding_rounds.ensures.same.shape ∙ c.first_layer-bivariate.ensures.same.shape
-      ∙ c.batch_phase.ensures.same.shape;
-}
+returns-in_err-betas-clause-same g c =
+    same_on (same_on c.batch_phase.ensures.same c.first_layer-bivariate.ensures.same)
+    c.grinding_rounds.ensures.same
 
 pub returns-in_err-indices-clause-same : goal.returns-in_err-indices-clause-same
-returns-in_err-indices-clause-same g c = record {
-  challenger = c.query_phase.ensures.same.challenger ∙ c.grinding_rounds.ensures.same.challenger
-      ∙ c.first_layer-bivariate.ensures.same.challenger ∙ c.batch_phase.ensures.same.challenger;
-  shape = c.query_phase.ensures.same.shape ∙ c.grinding_rounds.ensures.same.shape
-      ∙ c.first_layer-bivariate.ensures.same.shape ∙ c.batch_phase.ensures.same.shape;
-}
+returns-in_err-indices-clause-same g c =
+    same_on (same_on c.batch_phase.ensures.same c.first_layer-bivariate.ensures.same)
+    (same_on c.grinding_rounds.ensures.same c.query_phase.ensures.same)
 
 pub returns-clause-same : goal.returns-clause-same
-returns-clause-same g c = record {
-  challenger = c.query_phase.ensures.same.challenger ∙ c.grinding_rounds.ensures.same.challenger
-      ∙ c.first_layer-bivariate.ensures.same.challenger ∙ c.batch_phase.ensures.same.challenger;
-  shape = c.query_phase.ensures.same.shape ∙ c.grinding_rounds.ensures.same.shape
-      ∙ c.first_layer-bivariate.ensures.same.shape ∙ c.batch_phase.ensures.same.shape;
-}
+returns-clause-same g c =
+    same_on (same_on c.batch_phase.ensures.same c.first_layer-bivariate.ensures.same)
+    (same_on c.grinding_rounds.ensures.same c.query_phase.ensures.same)
 
 pub returns-clause-below : goal.returns-clause-below
 returns-clause-below g c =

@@ -1,7 +1,6 @@
 use Rattle.std.specs.Prelude.{Ok, ◌≡◌, ◌<◌, ◌^◌, All}
 use Rattle.std.proofs.Common.{length, rules, sym, ap, ◌∙◌, subst}
-use Rattle.circle_field.specs.Field.{of_nat}
-use Rattle.circle_challenger.specs.Moves.{RunMoves, run_moves}
+use Rattle.circle_transcript.specs.CircleRun.{moves_of}
 use Rattle.circle_transcript.specs.Claims.{claims_of}
 use Rattle.circle_transcript.specs.Draw.{draw, draw_seeded, widths_of}
 use Rattle.circle_transcript.specs.Numbers.{numbers_of, run_steps}
@@ -9,23 +8,13 @@ use Rattle.circle_transcript.specs.ShapeOf.{shape_of}
 use Rattle.circle_transcript.specs.Runs.{taken_of, drawn_leaving, IsStuck, ArePlayable}
 use Rattle.circle_transcript.specs.Transcript.{current, numbers}
 use Rattle.circle_transcript.proofs.Playing.{or_moved}
-use Rattle.circle_transcript.proofs.run.prover_run.Given.{Over}
 use Rattle.circle_transcript.proofs.run.prover_run.Goals as goal
-
--- what the challenger is to the run
-abbrev challenger : (g : Over) →
-    RunMoves g.row.C.Denot g.row.C-State.Denot g.row.F.Denot g.row.EF.Denot g.row.Com.Denot
-challenger g = run_moves g.C.ChallengerState.state g.C.CanObserve-1.after_observe
-    g.C.CanObserve-2.after_observe g.C.CanSample.sampled g.C.CanSample.after_sample
-    g.C.CanSampleBits.sampled_bits g.C.CanSampleBits.after_bits g.C.GrindingChallenger.found_witness
-    g.EF.ExtensionField.DEGREE g.EF.ExtensionField.coefficients (of_nat g.F.Operations.ops)
-    g.F.Operations.ops.zero
 
 pub returns-in-Err-clause-failure : goal.returns-in-Err-clause-failure
 returns-in-Err-clause-failure g c =
-    or_moved (λ n s. IsStuck (challenger g) n (claims_of c.args.claims.now) c.args.messages.now s
-    c.in-Err.failure) _ _ _ _ (c.of_seeded-transcript.ensures.shape
-    ∙ c.in_ok-seeded.ensures.shape)
+    let claims = claims_of c.args.claims.now in
+    or_moved (λ n s. IsStuck (moves_of c.args.run) n claims c.args.messages.now s c.in-Err.failure)
+    _ _ _ _ (c.of_seeded-transcript.ensures.shape ∙ c.in_ok-seeded.ensures.shape)
     (ap g.C.ChallengerState.state c.of_seeded-transcript.ensures.same
     ∙ c.in_ok-seeded.ensures.state) c.in-Err.ensures.failure
 
@@ -46,9 +35,9 @@ grinding_run-requires-clause-next g c =
     let degree = g.EF.ExtensionField.DEGREE in
     let widths = widths_of (claims_of c.args.claims.now) in
     let rounds = length c.args.messages.now.commitments.now in
-    let n = numbers_of (shape_of c.args.shape) in
+    let n = numbers_of (shape_of c.args.run.shape) in
     c.of_seeded-transcript.ensures.due ∙ c.in_ok-seeded.ensures.due
-    ∙ ap (λ v. run_steps degree v c.args.shape.num_commit_rounds n) (sym c.requires.claims)
+    ∙ ap (λ v. run_steps degree v c.args.run.shape.num_commit_rounds n) (sym c.requires.claims)
     ∙ ap (λ k. run_steps degree widths k n) (sym c.requires.rounds)
     ∙ ap (run_steps degree widths rounds)
     (sym (c.of_seeded-transcript.ensures.shape ∙ c.in_ok-seeded.ensures.shape))
@@ -56,7 +45,7 @@ grinding_run-requires-clause-next g c =
 pub grinding_run-requires-clause-small : goal.grinding_run-requires-clause-small
 grinding_run-requires-clause-small g c =
     subst ArePlayable (sym (c.of_seeded-transcript.ensures.shape ∙ c.in_ok-seeded.ensures.shape))
-    c.requires.small
+    c.args.run.playable
 
 pub grinding_run-requires-clause-count : goal.grinding_run-requires-clause-count
 grinding_run-requires-clause-count g c =
@@ -66,17 +55,17 @@ grinding_run-requires-clause-count g c =
 
 pub returns-in-Ok-clause-draws : goal.returns-in-Ok-clause-draws
 returns-in-Ok-clause-draws g c =
-    let r = challenger g in
+    let r = moves_of c.args.run in
     let all = taken_of c.args.claims.now c.args.messages.now c.in-Ok.draws.1 in
     let begun = c.of_seeded-transcript.result in
     let moved : draw_seeded r (numbers begun) all (r.base.state (current begun)) ≡ draw r
-    (shape_of c.args.shape) all (r.base.state c.args.challenger.now) =
+    (shape_of c.args.run.shape) all (r.base.state c.args.challenger.now) =
     ap (λ n. draw_seeded r n all (r.base.state (current begun)))
     (c.of_seeded-transcript.ensures.shape ∙ c.in_ok-seeded.ensures.shape)
-    ∙ ap (draw_seeded r (numbers_of (shape_of c.args.shape)) all)
+    ∙ ap (draw_seeded r (numbers_of (shape_of c.args.run.shape)) all)
     (ap g.C.ChallengerState.state c.of_seeded-transcript.ensures.same
     ∙ c.in_ok-seeded.ensures.state) in
-    subst (λ v. draw r (shape_of c.args.shape) all (r.base.state c.args.challenger.now)
+    subst (λ v. draw r (shape_of c.args.run.shape) all (r.base.state c.args.challenger.now)
     ≡ Ok (drawn_leaving r c.in-Ok.draws.0 v)) (search rules) (sym moved ∙ c.in-Ok.ensures.draws)
 
 pub returns-in-Ok-clause-count : goal.returns-in-Ok-clause-count
