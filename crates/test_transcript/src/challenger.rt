@@ -187,7 +187,8 @@ fn another_witness_misses(rt: HostRuntime) {
     expect!(rt; verified.is_none());
 }
 
-/// A transcript of one message, at any challenger.
+/// A transcript of one message, at any challenger. In the clause `CanObserve-1` is its bound of
+/// elements, and `CanObserve-2` that of messages.
 fn one_message<F: Field, C: CanSample<F> + GrindingChallenger<F>, Com>(
     challenger: &mut C,
     separator: &DomainSeparator,
@@ -197,8 +198,8 @@ fn one_message<F: Field, C: CanSample<F> + GrindingChallenger<F>, Com>(
 where
     C: CanObserve<Com>,
     requires { separator.now.steps ≡ opaque_message label.now ∷ [] }
-    ensures { C.state challenger.new ≡ ⟦<C as CanObserve<Com>>⟧.after_observe
-        (after_all ⟦<C as CanObserve<F>>⟧.after_observe (C.state challenger.old)
+    ensures { C.state challenger.new ≡ C.CanObserve-2.after_observe
+        (after_all C.CanObserve-1.after_observe (C.state challenger.old)
         (map (of_nat F.ops) (seed_text separator.now))) value.now }
 {
     let mut transcript = ProverState::<C, F>::new(challenger, separator);
