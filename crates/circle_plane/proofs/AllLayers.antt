@@ -1,18 +1,16 @@
 -- What all layers together make of the columns of stored entries.
 use Rattle.std.specs.Prelude.{◌≡◌, ◌≢◌, ℕ, ◌+◌, ◌-◌, ◌*◌, ◌%◌, ◌^◌, ◌<◌, ◌≤◌, List, [], ◌∷◌, length}
-use Rattle.std.specs.Prelude.{map, take, drop, ◌++◌, slice_index_or, Vec}
+use Rattle.std.specs.Prelude.{map, take, slice_index_or, Vec}
 use Rattle.std.specs.declared.alloc.Global.{Global}
 use Rattle.std.specs.List.{range_with_len}
-use Rattle.std.proofs.Common.{zero, suc, sym, ◌∙◌, ap, refl, arith, length-append, length-drop}
-use Rattle.std.proofs.lemmas.List.{length-map, length-take-le, take-map, get_or-take}
+use Rattle.std.proofs.Common.{zero, suc, sym, ◌∙◌, ap, refl, arith}
+use Rattle.std.proofs.lemmas.List.{length-map, take-map, get_or-take}
 use Rattle.std.proofs.lemmas.List.FromFn.{get_or-map-range_with_len}
 use Rattle.circle_field.specs.Field.{FieldOps, FieldLaws, two, nth_power}
 use Rattle.circle_field.specs.Circle.{Coordinates, IsOnCircle, AreGenerators, times, origin}
-use Rattle.circle_commit.specs.DotProduct.{pairwise}
-use Rattle.circle_commit.proofs.Written.{length-pairwise}
 use Rattle.std.proofs.Math.Nat.{pow-suc}
 use Rattle.std.proofs.lemmas.Nat.{pow-add}
-use Rattle.circle_domain.specs.Layers.{layer, layer_factors, copies}
+use Rattle.circle_domain.specs.Layers.{layer_factors, copies}
 use Rattle.circle_domain.proofs.Columns.{stored_column}
 use Rattle.circle_domain.proofs.Layering.{length-copies}
 use Rattle.circle_domain.proofs.Powers.{pow_within}

@@ -1,8 +1,8 @@
 -- What all layers together make of stored rows: coefficients from values, and values from
 -- coefficients.
-use Rattle.std.specs.Prelude.{◌≡◌, ◌≢◌, ℕ, ◌+◌, ◌-◌, ◌*◌, ◌^◌, ◌<◌, ◌≤◌, List, length, map, take}
+use Rattle.std.specs.Prelude.{◌≡◌, ℕ, ◌-◌, ◌*◌, ◌^◌, ◌<◌, ◌≤◌, List, length, map, take}
 use Rattle.std.specs.Prelude.{slice_index_or, All}
-use Rattle.std.proofs.Common.{sym, ◌∙◌, ap, arith, subst}
+use Rattle.std.proofs.Common.{sym, ◌∙◌, ap, arith}
 use Rattle.std.proofs.lemmas.List.{length-map, take-map}
 use Rattle.circle_field.specs.Field.{FieldOps, FieldLaws, two, nth_power}
 use Rattle.circle_field.specs.Circle.{Coordinates, AreGenerators, IsOnCircle}
@@ -14,7 +14,7 @@ use Rattle.circle_commit.specs.declared.matrix.RowMajorMatrix.{RowMajorMatrix}
 use Rattle.circle_point.specs.Basis.{value}
 use Rattle.circle_domain.specs.Domain.{log_size, shift_of}
 use Rattle.circle_domain.specs.Layers.{layer_factors, copies}
-use Rattle.circle_domain.specs.Order.{cfft_order, natural_order, IsGenuine}
+use Rattle.circle_domain.specs.Order.{cfft_order, IsGenuine}
 use Rattle.circle_domain.specs.Ordering.{other_order}
 use Rattle.circle_domain.specs.Values.{values_at}
 use Rattle.circle_domain.specs.declared.domain.CircleDomain.{CircleDomain}

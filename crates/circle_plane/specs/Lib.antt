@@ -1,3 +1,4 @@
+pub mod CfftView
 pub mod CircleEvaluations
 pub mod Coefficients
 pub mod Evaluated

@@ -8,9 +8,11 @@ use Rattle.circle_commit.specs.Matrix.{IsPowerOfTwo}
 use Rattle.circle_commit.specs.Mmcs.{greatest}
 use Rattle.circle_commit.specs.PeriodicLdeTable.{width_of, height_of, entry_at}
 use Rattle.circle_commit.specs.declared.periodic.PeriodicLdeTable.{PeriodicLdeTable}
-use Rattle.circle_domain.specs.Domain.{log_size, shift_of}
+use Rattle.circle_point.specs.Projective.{from_line}
+use Rattle.circle_domain.specs.Domain.{log_size, shift_of, IsStandardDomain}
 use Rattle.circle_domain.specs.Order.{natural_order}
-use Rattle.circle_domain.specs.Periodic.{IsPeriodicValue}
+use Rattle.circle_domain.specs.Periodic.{IsClearOfPeriod, IsPeriodicValue}
+use Rattle.circle_domain.specs.Selectors.{IsFinite}
 use Rattle.circle_domain.specs.declared.domain.CircleDomain.{CircleDomain}
 use Rattle.circle_plane.specs.declared.periodic.PeriodicError.{PeriodicError}
 use Rattle.circle_plane.specs.declared.periodic.PeriodicError.TheVariants.{Empty, NotPowerOfTwo}
@@ -24,6 +26,16 @@ columns_of table = map (λ column. column.items) table
 -- a fact of each column
 abbrev pub OfEachColumn : {F : Type 0} → List (Vec F Global) → (List F → Type 0) → Type 0
 OfEachColumn table P = (c : ℕ) → c < length table → P (slice_index_or (columns_of table) c [])
+
+module _ {F E : Type 0} {g : _} (two_adicity : ℕ) (k : FieldOps F) (gen : ℕ → Coordinates F)
+    (l : FieldOps E) (embed : F → E) (trace : CircleDomain F g) (t : E) where
+  -- a column that repeats over the trace has a value at the coordinate t: it has at most one entry,
+  -- or as many as a standard domain of at most the trace's size, which t is clear of
+  abbrev pub HasValueAt : List F → Type 0
+  HasValueAt column = 2 ≤ length column →
+      IsStandardDomain two_adicity gen trace
+      × IsPowerOfTwo (length column) × (length column ≤ 2 ^ log_size trace) × IsFinite l t
+      × IsClearOfPeriod k gen l embed (log_size trace) column (from_line l t)
 
 -- the values at q of the columns that repeat over a trace of 2^n rows
 abbrev pub ArePeriodicValues : {F E : Type 0} → FieldOps F → (ℕ → Coordinates F) → FieldOps E →

@@ -33,7 +33,8 @@ pub struct CircleEvaluations<F: Operations, M: MatrixShape> {
 }
 
 impl<F: Operations, M: Matrix<F>> CircleEvaluations<F, M> {
-    ghost use Rattle.circle_plane.specs.CircleEvaluations.{domain_of, cfft_values};
+    ghost use Rattle.circle_plane.specs.CfftView.{seen_rows, seen_width};
+    ghost use Rattle.circle_plane.specs.CircleEvaluations.{domain_of, cfft_values, natural_rows};
 
     /// Evaluations whose rows stand in the order of the circle transform.
     ///
@@ -57,11 +58,11 @@ impl<F: Operations, M: Matrix<F>> CircleEvaluations<F, M> {
         requires small { log_size domain ≤ 63 }
         requires size { M.height values ≡ 2 ^ log_size domain }
         ensures domain { domain_of result ≡ domain }
-        ensures rows { ⟦<CfftView<M> as Matrix<F>>⟧.rows (cfft_values result)
+        ensures rows { seen_rows M.rows (cfft_values result)
             ≡ other_order (log_size domain) (M.rows values) }
-        ensures back { other_order (log_size domain)
-            (⟦<CfftView<M> as Matrix<F>>⟧.rows (cfft_values result)) ≡ M.rows values }
-        ensures width { ⟦<CfftView<M> as MatrixShape>⟧.width (cfft_values result) ≡ M.width values }
+        ensures back { other_order (log_size domain) (seen_rows M.rows (cfft_values result))
+            ≡ M.rows values }
+        ensures width { seen_width M.width (cfft_values result) ≡ M.width values }
     {
         CircleEvaluations::from_cfft_order(domain, values.cfft_perm_rows())
     }
@@ -76,11 +77,10 @@ impl<F: Operations, M: Matrix<F>> CircleEvaluations<F, M> {
 
     /// The rows in natural order, without copying them.
     pub fn to_natural_order(self) -> CfftView<M>
-        ensures rows { ⟦<CfftView<M> as Matrix<F>>⟧.rows result
-            ≡ other_order (log_size (domain_of self)) (M.rows (cfft_values self)) }
-        ensures back { other_order (log_size (domain_of self))
-            (⟦<CfftView<M> as Matrix<F>>⟧.rows result) ≡ M.rows (cfft_values self) }
-        ensures width { ⟦<CfftView<M> as MatrixShape>⟧.width result ≡ M.width (cfft_values self) }
+        ensures rows { seen_rows M.rows result ≡ natural_rows M.rows self }
+        ensures back { other_order (log_size (domain_of self)) (seen_rows M.rows result)
+            ≡ M.rows (cfft_values self) }
+        ensures width { seen_width M.width result ≡ M.width (cfft_values self) }
     {
         let CircleEvaluations { domain: _, values } = self;
         values.cfft_perm_rows()

@@ -30,8 +30,8 @@
 //! - In `src/`, `cfft`: evaluations and their transform, over the ways of `layers` to apply it.
 //!   `periodic`: periodic columns.
 //! - In `specs/`, `CircleEvaluations`, `Coefficients`, `Evaluated`: what evaluations are and say.
-//!   `Layers`: what groups of rows count. `PeriodicColumns`, `PeriodicRows`: columns that repeat,
-//!   what is wrong with one, their table.
+//!   `CfftView`: rows seen in the other order. `Layers`: what groups of rows count.
+//!   `PeriodicColumns`, `PeriodicRows`: columns that repeat, what is wrong with one, their table.
 //! - In `proofs/`, `Passes`, `AllLayers`, `Transformed`: coefficients are made of values and values
 //!   of coefficients. `DoubledPoints`, `DoubledValues`: the points of a domain, doubled r times,
 //!   are those of the domain of `2^r` times fewer points over and over. `NaturalRows`,

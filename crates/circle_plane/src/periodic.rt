@@ -14,7 +14,7 @@ ghost use Rattle.circle_domain.specs.Periodic.{IsPeriodicValue};
 ghost use Rattle.circle_point.specs.Projective.{from_line};
 ghost use Rattle.circle_plane.specs.PeriodicColumns.{IsPeriod, IsFault, IsFirstFault};
 ghost use Rattle.circle_plane.specs.PeriodicColumns.{ArePeriodicValues, IsTableOn, IsRefusedOn};
-ghost use Rattle.circle_plane.specs.PeriodicColumns.{OfEachColumn, columns_of};
+ghost use Rattle.circle_plane.specs.PeriodicColumns.{HasValueAt, OfEachColumn, columns_of};
 ghost use Rattle.circle_plane.specs.PeriodicRows.{AreExtendedOn, table_row};
 ghost use Rattle.circle_plane.specs.declared.periodic.PeriodicError.TheVariants.{HeightTooLarge};
 ghost use Rattle.circle_plane.specs.declared.periodic.PeriodicError.TheVariants.{Memory};
@@ -74,8 +74,8 @@ impl<F: ComplexExtendable> PeriodicEvaluator<F, CircleDomain<F>> for CirclePerio
     ghost eval_on_lde_refuses = { λ columns trace lde e. IsRefusedOn trace lde columns e };
 
     ghost eval_at_point_asks = { λ e l embed columns trace point. (c : ℕ) → c < length columns →
-        ⟦<CircleDomain<F> as PolynomialSpace>⟧.evaluate_periodic_column_at_asks
-        e l embed trace (slice_index_or columns c []) point };
+        HasValueAt F.CIRCLE_TWO_ADICITY F.ops F.generators l embed trace point
+        (slice_index_or columns c []) };
 
     ghost eval_at_point_gives = { λ e l embed columns trace point values.
         (length values ≡ length columns) × ((c : ℕ) → c < length columns →
@@ -136,8 +136,8 @@ impl<F: ComplexExtendable> PeriodicEvaluator<F, CircleDomain<F>> for CirclePerio
         trace_domain: &CircleDomain<F>,
         point: EF,
     ) -> Result<Vec<EF>, AllocError>
-        requires { let s = ⟦<CircleDomain<F> as PolynomialSpace>⟧ in OfEachColumn periodic_table.now
-            (λ c. s.evaluate_periodic_column_at_asks EF EF.ops EF.embed trace_domain.now c point) }
+        requires { OfEachColumn periodic_table.now (HasValueAt F.CIRCLE_TWO_ADICITY F.ops
+            F.generators EF.ops EF.embed trace_domain.now point) }
         ensures count { IfOk result (λ values. length values.items ≡ length periodic_table.now) }
         ensures values { IfOk result (λ values. ArePeriodicValues F.ops F.generators EF.ops EF.embed
             (log_size trace_domain.now) (from_line EF.ops point) periodic_table.now values.items) }

@@ -1,6 +1,6 @@
 use Rattle.std.specs.Prelude.{Vec}
 use Rattle.std.specs.declared.alloc.Global.{Global}
-use Rattle.std.proofs.Common.{◌≡◌, ◌*◌, ◌^◌, ◌-◌, ◌%◌, ◌∙◌, refl, sym, ap, subst, length, arith}
+use Rattle.std.proofs.Common.{◌≡◌, ◌*◌, ◌^◌, ◌-◌, ◌∙◌, refl, sym, ap, subst, length, arith}
 use Rattle.std.proofs.Common.{IfOk}
 use Rattle.circle_commit.specs.RowMajorMatrix.{height_of, length-values, values_of, width_of}
 use Rattle.circle_domain.specs.Layers.{copies}

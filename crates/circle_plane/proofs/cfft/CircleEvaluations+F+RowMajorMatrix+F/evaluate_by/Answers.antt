@@ -14,7 +14,6 @@ use Rattle.circle_domain.proofs.Stored.{whole, height}
 use Rattle.circle_domain.proofs.Twiddles.{length-layer_factors}
 use Rattle.circle_cfft.specs.Butterflies.{plus_multiple, minus_multiple}
 use Rattle.circle_cfft.specs.Passes.{factors_at, descending, to_values}
-use Rattle.circle_plane.specs.CircleEvaluations.{cfft_values}
 use Rattle.circle_plane.specs.Coefficients.{Evaluates}
 use Rattle.circle_plane.proofs.AllLayers.{copied-long, layer-entries}
 use Rattle.circle_plane.proofs.Transformed.{evaluated}

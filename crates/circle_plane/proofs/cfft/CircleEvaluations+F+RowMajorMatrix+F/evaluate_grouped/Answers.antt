@@ -1,4 +1,4 @@
-use Rattle.std.proofs.Common.{◌+◌, ◌*◌, ◌-◌, ◌^◌, ◌∙◌, ap, arith}
+use Rattle.std.proofs.Common.{◌*◌, ◌-◌, ◌^◌, ◌∙◌, ap, arith}
 use Rattle.circle_commit.specs.RowMajorMatrix.{width_of}
 use Rattle.circle_domain.specs.Domain.{log_size}
 use Rattle.circle_plane.proofs.AllLayers.{halved}

@@ -1,4 +1,4 @@
-use Rattle.std.proofs.Common.{◌≡◌, ◌∙◌, sym, ap, map}
+use Rattle.std.proofs.Common.{◌∙◌, sym, ap, map}
 use Rattle.circle_commit.specs.RowMajorMatrix.{length-rows, rows}
 use Rattle.circle_domain.proofs.Results.{if_ok_both}
 use Rattle.circle_domain.specs.Domain.{points_of}

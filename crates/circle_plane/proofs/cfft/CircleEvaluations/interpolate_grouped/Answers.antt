@@ -1,4 +1,4 @@
-use Rattle.std.proofs.Common.{◌+◌, ◌*◌, ◌-◌, ◌^◌, ◌∙◌, ap, arith}
+use Rattle.std.proofs.Common.{◌*◌, ◌-◌, ◌^◌, ◌∙◌, ap, arith}
 use Rattle.circle_domain.specs.Domain.{log_size}
 use Rattle.circle_plane.proofs.AllLayers.{halved}
 use Rattle.circle_plane.proofs.cfft.CircleEvaluations.interpolate_grouped.Goals as goal
