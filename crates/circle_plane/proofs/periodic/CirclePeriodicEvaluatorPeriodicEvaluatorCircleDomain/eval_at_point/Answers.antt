@@ -1,5 +1,5 @@
-use Rattle.std.proofs.Common.{◌≡◌, ◌<◌, ◌+◌, ◌++◌, ◌∙◌, [], ◌∷◌, ℕ, List, sym, ap, subst, length, map}
-use Rattle.std.proofs.Common.{arith, get_or, length-append}
+use Rattle.std.proofs.Common.{◌≡◌, ◌<◌, ◌+◌, ◌++◌, ◌∙◌, [], ◌∷◌, ℕ, List, sym, ap, subst, length}
+use Rattle.std.proofs.Common.{map, arith, get_or, length-append}
 use Rattle.std.proofs.lemmas.List.{length-map}
 use Rattle.circle_point.specs.Projective.{from_line}
 use Rattle.circle_domain.specs.Domain.{log_size}
