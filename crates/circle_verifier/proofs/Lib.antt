@@ -1,4 +1,6 @@
+pub mod CheckedRows
 pub mod Claimed
+pub mod Counts
 pub mod Domains
 pub mod Finite
 pub mod FirstLayerPlaces
@@ -7,6 +9,7 @@ pub mod FirstLayerTwiddles
 pub mod FirstLayerWords
 pub mod HeightTests
 pub mod Items
+pub mod Known
 pub mod LastWord
 pub mod Lengths
 pub mod Points

@@ -1,13 +1,20 @@
 -- What a verifier's transcript is described by, and what it absorbs.
 use Rattle.std.proofs.Common.{◌≡◌, ℕ, ◌+◌, ◌≤◌, List, [], ◌∷◌, length, zip, sym, ap, ◌∙◌, arith}
 use Rattle.std.proofs.Common.{inl, inr}
-use Rattle.std.specs.Prelude.{All, Result, ◌⊎◌}
+use Rattle.std.specs.Prelude.{All, Result, Ok, ◌⊎◌}
+use Rattle.std.proofs.lemmas.List.{length-map}
 use Rattle.std.proofs.lemmas.List.Elements.{All-head}
+use Rattle.std.proofs.lemmas.Slice.Zip.{length-zip}
+use Rattle.circle_field.specs.Field.{FieldOps}
 use Rattle.circle_challenger.specs.Moves.{RunMoves}
 use Rattle.circle_commit.specs.declared.params.PowPhase.{PowPhase}
-use Rattle.circle_relation.specs.Statement.{MatrixClaim, log_max_height}
 use Rattle.circle_commit.specs.declared.error.FriError.{FriError}
 use Rattle.circle_commit.specs.declared.error.FriError.TheVariants.{Memory}
+use Rattle.circle_commit.specs.declared.params.FriParameters.{FriParameters}
+use Rattle.circle_relation.specs.Statement.{BatchClaim, MatrixClaim, OpeningProof, Challenges}
+use Rattle.circle_relation.specs.Statement.{log_max_height}
+use Rattle.circle_relation.specs.Taken.{drawn_by}
+use Rattle.circle_verifier.proofs.Counts.{betas-count, queries-count}
 use Rattle.circle_transcript.specs.declared.failure.CircleTranscriptFailure.{CircleTranscriptFailure}
 use Rattle.circle_transcript.specs.declared.failure.CircleTranscriptFailure.TheVariants.{Memory as OutOfMemory}
 use Rattle.circle_transcript.specs.Failure.{phase_of}
@@ -15,7 +22,8 @@ use Rattle.circle_transcript.specs.declared.transcript.Numbers.{Numbers}
 use Rattle.circle_transcript.specs.Runs.{IsMiss}
 use Rattle.circle_transcript.specs.Shape.{Shape}
 use Rattle.circle_transcript.specs.Draw.{Claim, Taken, taken, Drawn, draw}
-use Rattle.circle_verifier.specs.Replay.{refusal_of, IsMissedIn}
+use Rattle.circle_verifier.specs.Replay.{drawing, refusal_of, IsMissedIn}
+use Rattle.circle_verifier.specs.Tested.{rounds_due}
 
 -- claims that leave something to fold are of heights above what folding stops at
 pub tested_high : {E : Type 0} (blowup final : ℕ) (ms : List (MatrixClaim E)) → 1 ≤ length ms →
@@ -55,3 +63,19 @@ refused_by n d d' x e same is (inr miss) =
       missed =
           same ∙ miss.failed;
     })
+
+module _ {C S F E M Com InputCom InputProof WordProof : Type 0} (m : RunMoves C S F E Com)
+    (p : FriParameters M) (l : FieldOps E) (batches : List (BatchClaim InputCom E))
+    (proof : OpeningProof F E Com InputProof WordProof) (old new : S) (c : Challenges E)
+    (is : drawing m p l batches proof old ≡ Ok (drawn_by m.base.coefficients c new)) where
+  -- as many queries are drawn as the parameters say, and a challenge for each round
+  pub queries-drawn : length c.queries ≡ p.num_queries
+  queries-drawn = queries-count m _ _ _ _ is
+
+  pub betas-drawn : length proof.commitments ≡ rounds_due p batches →
+      length proof.witnesses ≡ rounds_due p batches → length c.betas ≡ rounds_due p batches
+  betas-drawn commitments witnesses =
+      let count = betas-count m _ _ _ _ is in
+      let listed = length-map c.betas m.base.coefficients in
+      let zipped = length-zip proof.commitments proof.witnesses in
+      omega (arith, count, listed, zipped, commitments, witnesses)

@@ -1,7 +1,9 @@
 pub mod Batches
 pub mod Drawn
 pub mod FirstLayer
+pub mod OfDrawn
 pub mod OfRun
+pub mod OfTested
 pub mod Refusals
 pub mod Rounds
 pub mod Shape

@@ -6,11 +6,8 @@ use Rattle.circle_commit.specs.declared.error.FriError.{FriError}
 use Rattle.circle_commit.specs.declared.error.FriError.TheVariants.{InvalidPowWitness, Memory}
 use Rattle.circle_commit.specs.declared.params.FriParameters.{FriParameters}
 use Rattle.circle_commit.specs.declared.params.PowPhase.{PowPhase}
-use Rattle.circle_commit.specs.declared.pcs.CommitmentOpening.{CommitmentOpening}
-use Rattle.circle_domain.specs.declared.domain.CircleDomain.{CircleDomain}
 use Rattle.circle_relation.specs.RunOf.{proof_of}
 use Rattle.circle_relation.specs.StatementOf.{batch_claims}
-use Rattle.circle_relation.specs.declared.proof.CirclePcsProof.{CirclePcsProof}
 use Rattle.circle_relation.specs.Statement.{BatchClaim, OpeningProof}
 use Rattle.circle_relation.specs.Taken.{shape_by, taken_by}
 use Rattle.circle_transcript.specs.declared.failure.CircleTranscriptFailure.{CircleTranscriptFailure}
@@ -20,6 +17,7 @@ use Rattle.circle_transcript.specs.declared.failure.CircleTranscriptFailure.TheV
 use Rattle.circle_transcript.specs.Draw.{Drawn, draw}
 use Rattle.circle_transcript.specs.Runs.{drawn_leaving}
 use Rattle.circle_transcript.specs.declared.run.CircleDraws.{CircleDraws}
+use Rattle.circle_verifier.specs.declared.tested.TestedRun.{TestedRun}
 
 -- what is drawn from a state of a challenger, of claims and a proof
 abbrev pub drawing : {C S F E M Com InputCom InputProof WordProof : Type 0} → RunMoves C S F E Com
@@ -42,14 +40,14 @@ pub record IsMissedIn {S F WE I : Type 0} (drawn : Result (Drawn S F) PowPhase)
 
 -- I and W are the schemes of the batches and of the codewords, each with its commitments, data,
 -- proofs and errors; r is what the challenger is to the transcript
-module _ {C S F E I W IC ID IP IE WC WD WP WE : Type 0} {g : _} (r : RunMoves C S F E WC)
-    (l : FieldOps E) (p : FriParameters W)
-    (claims : List (CommitmentOpening E IC (CircleDomain F g)))
-    (proof : CirclePcsProof F E I W F IC ID IP IE WC WD WP WE) where
+module _ {C S F E I W IC ID IP IE WC WD WP WE : Type 0} {g over inputs ic ip ie words wc wp we : _}
+    (r : RunMoves C S F E WC)
+    (t : TestedRun F E I W IC ID IP IE WC WD WP WE g over inputs ic ip ie words wc wp we) where
   -- what the challenger draws
   abbrev pub drawn_from : C → Result (Drawn S F) PowPhase
   drawn_from challenger =
-      drawing r p l (batch_claims claims) (proof_of proof) (r.base.state challenger)
+      drawing r t.params.now over.fields.extension (batch_claims t.claims.now)
+      (proof_of t.proof.now) (r.base.state challenger)
 
   -- the first challenger draws these, and the other is left
   abbrev pub AreDrawn : C → CircleDraws E → C → Type 0

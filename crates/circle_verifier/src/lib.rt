@@ -1,17 +1,22 @@
 //! What a verifier of Circle STARK openings (IACR ePrint 2024/278) checks.
 //!
-//! Before the challenger is seeded, in `verifier`: `validate_run` returns the first refusal of
-//! claims and a proof that there is reason for, or the logarithm of the greatest height
-//! (`run_tests`). `validate_claims`, `validate_parameters`, `validate_proof_shape` and
-//! `validate_points` do so of parts of these tests (`batch_tests`, `parameter_tests`,
-//! `proof_tests`, `point_tests`), which `specs/Refusals` lists in order.
+//! For every lawful field, extension and schemes, each step is a method of a value that carries
+//! what is known so far, as a ghost field. Before the challenger is seeded, and while it is played:
 //!
-//! `replay_transcript` draws what the transcript of claims and a proof draws from a challenger, or
-//! returns the refusal of the first witness that doesn't pass.
+//! - `TestedRun::new` returns the first refusal of claims and a proof that there is reason for
+//!   (`run_tests`), or makes a `TestedRun`: what the tests establish (`tested`), and the logarithm
+//!   of the greatest height (`top`). Functions of `verifier` return the refusals of parts of these
+//!   tests, which `specs/Refusals` lists in order: `validate_claims`, `validate_parameters`,
+//!   `validate_proof_shape` and `validate_points` (`batch_tests`, `parameter_tests`, `proof_tests`,
+//!   `point_tests`).
+//! - `TestedRun::replay_transcript` draws what the transcript of the claims and the proof draws from
+//!   a challenger (`drawn`), or returns the refusal of the first witness that doesn't pass
+//!   (`failure`). It makes a `DrawnRun`: a challenge for each round (`betas`), and as many queries as
+//!   the parameters say (`count`), each below the greatest height (`below`).
+//! - `DrawnRun::opened` makes the run of the relation, where batches are committed to by a scheme.
+//!   `DrawnRun::verify` is Ok only where the relation accepts it (`accepted`).
 //!
-//! Once the challenges of a run are drawn, by the relation of `circle_relation`, for every lawful
-//! field, extension and schemes, each step is a method of a value that carries what is known so
-//! far, as a ghost field:
+//! Once the challenges are drawn, by the relation of `circle_relation`:
 //!
 //! - `OpenedRun` has what was tested before the challenges were drawn, and what is known of them
 //!   (`drawn`). `claimed_heights` returns the heights that matrices are claimed of, ascending.
@@ -32,25 +37,25 @@
 //! - `LastValues::check_final` is Ok only where each query ends in the value of the final
 //!   polynomial (`ended`).
 //! - `OpenedRun::verify` is all of these: Ok only where a run meets what the relation says of it
-//!   (`opened`, `holds`). `verify_drawn` makes the run of claims, a proof and what was drawn, and
-//!   is Ok only where the relation accepts it (`accepted`).
+//!   (`opened`, `holds`).
 //! - Whatever these refuse, the relation has a reason for, or memory was refused (`refused`).
 //!
 //! Its files:
 //!
 //! - In `specs/`, `Refusals`: the tests before the seeding, in order; `Tests`: these over the
-//!   records; `Tested`: what they establish. `Replay`: what is drawn. `Drawn`: what is known of a
-//!   run once its challenges are drawn. `OfRun`: the relation's parts, and the lists that calls
-//!   hand on, over an `OpenedRun`. `Shape`, `Batches`, `Sums`, `FirstLayer`, `Rounds`: definitions
-//!   of private contracts.
-//! - In `proofs/`, `Domains`, `HeightTests`, `ShapeTests`, `Seeding`, `Finite`, `Claimed`: the
-//!   tests. `Items`, `Replayed`: the transcript. `Sizes`, `Lengths`, `Points`, `Rows`: shapes and
+//!   records; `Tested`: what they establish. `OfTested`: what a `TestedRun` is of. `Replay`: what is
+//!   drawn. `Drawn`: what is known of a run once its challenges are drawn. `OfDrawn`, `OfRun`: the
+//!   relation, its parts, and the lists that calls hand on, over a `DrawnRun` and an `OpenedRun`.
+//!   `Shape`, `Batches`, `Sums`, `FirstLayer`, `Rounds`: definitions of private contracts.
+//! - In `proofs/`, `Domains`, `HeightTests`, `ShapeTests`, `Seeding`, `Known`, `Finite`, `Claimed`:
+//!   the tests. `Items`, `Replayed`: the transcript. `Sizes`, `Lengths`, `Points`, `Rows`: shapes and
 //!   rows. Those that begin with `Reduced`, `FirstLayer` and `Rounds`, and `LastWord`: each part.
 //!   `Verified`: the relation, and back.
 #![tactic(auto)]
 
 pub mod batches;
 pub mod checked;
+pub mod drawn;
 pub mod first_layer;
 pub mod heights;
 pub mod last_word;
@@ -60,12 +65,13 @@ pub mod replay;
 pub mod rounds;
 pub mod run;
 pub mod shape;
+pub mod tested;
 pub mod verifier;
 
 pub use checked::CheckedRun;
+pub use drawn::DrawnRun;
 pub use first_layer::FirstLayer;
 pub use last_word::LastValues;
-pub use queries::verify_drawn;
 pub use reduced::ReducedWords;
-pub use replay::replay_transcript;
 pub use run::OpenedRun;
+pub use tested::TestedRun;

@@ -1,31 +1,27 @@
 //! The verifier's side of the transcript: what it is described by, and what it absorbs.
-ghost use Rattle.std.specs.Prelude.{◌≡◌, ◌<◌, ◌^◌, ◌++◌, map, flat_map, length, All, IfOk, IfErr};
-ghost use Rattle.std.specs.Prelude.{OnOk, Ok};
-ghost use Rattle.circle_commit.specs.declared.error.FriError.TheVariants.{Memory};
+ghost use Rattle.std.specs.Prelude.{◌≡◌, ◌++◌, map, flat_map, length, All, IfOk, IfErr, OnOk};
 ghost use Rattle.circle_domain.specs.Selectors.{IsFinite};
 ghost use Rattle.circle_relation.specs.Statement.{all_matrices};
-ghost use Rattle.circle_relation.specs.RunOf.{proof_of};
 ghost use Rattle.circle_relation.specs.StatementOf.{point_claim, matrix_claims, batch_claims};
 ghost use Rattle.circle_transcript.specs.Claims.{claims_of};
 ghost use Rattle.circle_transcript.specs.ShapeOf.{matrices_of, batches_of};
 ghost use Rattle.circle_relation.specs.Taken.{widths_by, point_taken, claims_taken};
 ghost use Rattle.circle_verifier.specs.Replay.{AreDrawn, AreNotDrawn, refusal_of};
-ghost use Rattle.circle_verifier.specs.Tests.{claimed_height};
-ghost use Rattle.circle_verifier.specs.Tested.{IsTestedOver};
 
+use crate::drawn::DrawnRun;
+use crate::tested::TestedRun;
 use circle_challenger::{CanObserve, CanSample, GrindingChallenger, RunChallenger};
 use circle_commit::{
-    CommitmentOpening, FriError, FriFoldingStrategy, FriParameters, MatrixOpening, Mmcs,
-    PointOpening,
+    CommitmentOpening, FriError, FriFoldingStrategy, MatrixOpening, Mmcs, PointOpening,
 };
 use circle_domain::CircleDomain;
 use circle_field::{ComplexExtendable, ExtensionField, Field};
 use circle_folding::CircleFriFolding;
 use circle_point::Point;
-use circle_relation::{CirclePcsProof, OverCircle, VerifierError};
+use circle_relation::VerifierError;
 use circle_transcript::{
-    CircleDraws, CircleMessages, CirclePcsShape, CircleTranscriptFailure, CircleWitnesses,
-    OpeningClaim, verifier_run,
+    CircleMessages, CirclePcsShape, CircleTranscriptFailure, CircleWitnesses, OpeningClaim,
+    verifier_run,
 };
 use std::alloc::{AllocError, Global};
 
@@ -137,54 +133,53 @@ fn refusal_of<CommitErr, InputErr>(
     }
 }
 
-/// Plays the transcript of a run that was tested, and draws its challenges: the seed is made of the
-/// claims and the parameters, never of the proof.
-///
-/// Requires the binary logarithm of the greatest height that is claimed. Fails with
-/// `InvalidPowWitness` of the first phase whose witness doesn't pass, and with `Memory` where
-/// memory is refused.
-pub fn replay_transcript<
+impl<
+    'a,
     Val: ComplexExtendable,
     EF: ExtensionField<Val>,
     InputMmcs: Mmcs<Val>,
     FriMmcs: Mmcs<EF>,
-    C,
->(
-    alloc: Global,
-    params: &FriParameters<FriMmcs>,
-    claims: &[CommitmentOpening<EF, InputMmcs::Commitment, CircleDomain<Val>>],
-    proof: &CirclePcsProof<Val, EF, InputMmcs, FriMmcs, Val>,
-    log_max_height: usize,
-    challenger: &mut C,
-) -> Result<CircleDraws<EF>, VerifierError<InputMmcs::Error, FriMmcs::Error>>
-where
-    C: CanSample<Val> + GrindingChallenger<Val> + CanObserve<FriMmcs::Commitment>,
-    requires tested { IsTestedOver ⟦<EF as OverCircle<Val>>⟧.fields params.now
-        (batch_claims claims.now) (proof_of proof.now) }
-    requires top { log_max_height ≡ claimed_height params.now.log_blowup (batch_claims claims.now) }
-    ensures drawn { let m = ⟦<C as RunChallenger<Val, EF, FriMmcs::Commitment>>⟧.run in IfOk result
-        (λ d. AreDrawn m EF.ops params.now claims.now proof.now challenger.old d challenger.new) }
-    ensures below { IfOk result (λ d. All (λ q. q < 2 ^ log_max_height) d.indices.items) }
-    ensures failure { let m = ⟦<C as RunChallenger<Val, EF, FriMmcs::Commitment>>⟧.run in
-        IfErr result (AreNotDrawn m EF.ops params.now claims.now proof.now challenger.old) }
-{
-    let widths = widths_of_claims(alloc, claims)?;
-    let extra_bits = FriFoldingStrategy::<Val, EF>::extra_query_index_bits(&CircleFriFolding);
-    let shape = CirclePcsShape::new(params, widths, log_max_height, extra_bits);
-    let fri_proof = &proof.fri_proof;
-    let messages = CircleMessages {
-        first_layer: &proof.first_layer_commitment,
-        commitments: &fri_proof.commit_phase_commits,
-        final_poly: &fri_proof.final_poly,
-    };
-    let witnesses = CircleWitnesses {
-        batch: proof.batch_pow_witness,
-        rounds: Vec::from_slice(alloc, &fri_proof.commit_pow_witnesses)?,
-        query: fri_proof.pow_witness,
-    };
-    let claimed = opening_claims(alloc, claims)?;
-    match verifier_run(alloc, challenger, shape, &claimed, &messages, &witnesses) {
-        Ok(draws) => Ok(draws),
-        Err(failure) => Err(refusal_of(failure)),
+> TestedRun<'a, Val, EF, InputMmcs, FriMmcs> {
+    /// Plays the transcript, and draws the challenges: the seed is made of the claims and the
+    /// parameters, never of the proof.
+    ///
+    /// Fails with `InvalidPowWitness` of the first phase whose witness doesn't pass, and with
+    /// `Memory` where memory is refused.
+    pub fn replay_transcript<C>(
+        self,
+        alloc: Global,
+        challenger: &mut C,
+    ) -> Result<
+        DrawnRun<'a, Val, EF, InputMmcs, FriMmcs>,
+        VerifierError<InputMmcs::Error, FriMmcs::Error>,
+    >
+    where
+        C: CanSample<Val> + GrindingChallenger<Val> + CanObserve<FriMmcs::Commitment>,
+        ensures run { IfOk result (λ drawn. drawn.run ≡ self.entry) }
+        ensures drawn { let m = ⟦<C as RunChallenger<Val, EF, FriMmcs::Commitment>>⟧.run in
+            IfOk result (λ d. AreDrawn m d.run challenger.old d.draws challenger.new) }
+        ensures failure { let m = ⟦<C as RunChallenger<Val, EF, FriMmcs::Commitment>>⟧.run in
+            IfErr result (AreNotDrawn m self.entry challenger.old) }
+    {
+        let proof = self.proof;
+        let widths = widths_of_claims(alloc, self.claims)?;
+        let extra_bits = FriFoldingStrategy::<Val, EF>::extra_query_index_bits(&CircleFriFolding);
+        let shape = CirclePcsShape::new(self.params, widths, self.log_max_height, extra_bits);
+        let fri_proof = &proof.fri_proof;
+        let messages = CircleMessages {
+            first_layer: &proof.first_layer_commitment,
+            commitments: &fri_proof.commit_phase_commits,
+            final_poly: &fri_proof.final_poly,
+        };
+        let witnesses = CircleWitnesses {
+            batch: proof.batch_pow_witness,
+            rounds: Vec::from_slice(alloc, &fri_proof.commit_pow_witnesses)?,
+            query: fri_proof.pow_witness,
+        };
+        let claimed = opening_claims(alloc, self.claims)?;
+        match verifier_run(alloc, challenger, shape, &claimed, &messages, &witnesses) {
+            Ok(draws) => Ok(DrawnRun { run: self, draws }),
+            Err(failure) => Err(refusal_of(failure)),
+        }
     }
 }

@@ -10,9 +10,11 @@ ghost use Rattle.circle_verifier.specs.Refusals.{parameter_tests, point_tests, r
 ghost use Rattle.circle_verifier.specs.Refusals.{rounds_tests, sibling_tests, some_point};
 ghost use Rattle.circle_verifier.specs.Refusals.{witness_test};
 ghost use Rattle.circle_point.specs.Projective.{is_at_infinity};
-ghost use Rattle.circle_verifier.specs.Tests.{batch_tests, claimed_height, proof_tests, run_tests};
+ghost use Rattle.circle_verifier.specs.OfTested.{IsTestedOf};
+ghost use Rattle.circle_verifier.specs.Tests.{batch_tests, claimed_height, proof_tests};
 ghost use Rattle.circle_verifier.specs.Tests.{sibling_counts};
 
+use crate::tested::TestedRun;
 use circle_commit::{
     CommitmentOpening, FriError, FriParameters, MAX_PROOF_OF_WORK_BITS, MatrixOpening, Mmcs,
     PointOpening, PowPhase,
@@ -21,8 +23,7 @@ use circle_domain::CircleDomain;
 use circle_field::{ComplexExtendable, ExtensionField, Field};
 use circle_point::is_at_infinity;
 use circle_relation::{
-    CircleCommitPhaseMultiStep, CircleFriProof, CirclePcsProof, InputError, OverCircle,
-    VerifierError,
+    CircleCommitPhaseMultiStep, CircleFriProof, CirclePcsProof, InputError, VerifierError,
 };
 
 // The greatest logarithm of a domain of a batch, or 0 where it claims no matrix. Refuses the first
@@ -343,37 +344,45 @@ pub fn validate_points<F: Field, Commitment, D, M, Witness: Field, CommitErr, In
     Ok(())
 }
 
-/// Refuses claims and a proof by the first reason in the one order in which a verifier tests them
-/// before it seeds the challenger, and returns the logarithm of the greatest height that is
-/// claimed: the claims ([`validate_claims`]), the parameters ([`validate_parameters`]), the lengths
-/// and the witnesses of the proof ([`validate_proof_shape`]), the number of coefficients of the
-/// final polynomial (`FinalPolyLengthMismatch`), and the witness of the batching challenge and the
-/// claimed points ([`validate_points`]).
-///
-/// No height is read from the proof. That of the claims fixes the number of rounds and the bits of
-/// an index, and the proof's lists are compared with it: a proof with other rounds can neither make
-/// the indices wider nor the folding shorter.
-///
-/// Takes no memory.
-pub fn validate_run<
+impl<
+    'a,
     Val: ComplexExtendable,
     EF: ExtensionField<Val>,
     InputMmcs: Mmcs<Val>,
     FriMmcs: Mmcs<EF>,
->(
-    params: &FriParameters<FriMmcs>,
-    claims: &[CommitmentOpening<EF, InputMmcs::Commitment, CircleDomain<Val>>],
-    proof: &CirclePcsProof<Val, EF, InputMmcs, FriMmcs, Val>,
-) -> Result<usize, VerifierError<InputMmcs::Error, FriMmcs::Error>>
-    ensures { let t = ⟦<EF as OverCircle<Val>>⟧.fields in result ≡ answer (run_tests t params.now
-        claims.now proof.now) (claimed_height params.now.log_blowup (batch_claims claims.now)) }
-{
-    let log_final_poly_len = params.log_final_poly_len;
-    let log_max_height = validate_claims(claims, params.log_blowup, log_final_poly_len)?;
-    validate_parameters(params)?;
-    let num_commit_rounds = log_max_height - 1 - params.log_blowup - log_final_poly_len;
-    validate_proof_shape(params, &proof.fri_proof, num_commit_rounds)?;
-    check_final_poly(log_final_poly_len, proof.fri_proof.final_poly.len())?;
-    validate_points(params, &proof.batch_pow_witness, claims)?;
-    Ok(log_max_height)
+> TestedRun<'a, Val, EF, InputMmcs, FriMmcs> {
+    /// Claims and a proof that no test before the seeding of the challenger refuses, with the
+    /// logarithm of the greatest height that is claimed. Refuses by the first reason in the one
+    /// order in which a verifier tests them: the claims ([`validate_claims`]), the parameters
+    /// ([`validate_parameters`]), the lengths and the witnesses of the proof
+    /// ([`validate_proof_shape`]), the number of coefficients of the final polynomial
+    /// (`FinalPolyLengthMismatch`), and the witness of the batching challenge and the claimed
+    /// points ([`validate_points`]).
+    ///
+    /// No height is read from the proof. That of the claims fixes the number of rounds and the bits
+    /// of an index, and the proof's lists are compared with it: a proof with other rounds can
+    /// neither make the indices wider nor the folding shorter.
+    ///
+    /// Takes no memory.
+    pub fn new(
+        params: &'a FriParameters<FriMmcs>,
+        claims: &'a [CommitmentOpening<EF, InputMmcs::Commitment, CircleDomain<Val>>],
+        proof: &'a CirclePcsProof<Val, EF, InputMmcs, FriMmcs, Val>,
+    ) -> Result<Self, VerifierError<InputMmcs::Error, FriMmcs::Error>>
+        ensures { IsTestedOf result params.now claims.now proof.now }
+    {
+        let log_final_poly_len = params.log_final_poly_len;
+        let log_max_height = validate_claims(claims, params.log_blowup, log_final_poly_len)?;
+        validate_parameters(params)?;
+        let num_commit_rounds = log_max_height - 1 - params.log_blowup - log_final_poly_len;
+        validate_proof_shape(params, &proof.fri_proof, num_commit_rounds)?;
+        check_final_poly(log_final_poly_len, proof.fri_proof.final_poly.len())?;
+        validate_points(params, &proof.batch_pow_witness, claims)?;
+        Ok(TestedRun {
+            params,
+            claims,
+            proof,
+            log_max_height,
+        })
+    }
 }

@@ -1,9 +1,7 @@
 -- The verifier's verdicts, from those of its parts.
-use Rattle.std.proofs.Common.{◌≡◌, ℕ, Bool, true, false, List, length, refl, sym, subst, ◌∙◌, arith}
-use Rattle.std.proofs.Common.{inl, inr}
-use Rattle.std.specs.Prelude.{Result, Ok, Err, IfErr, MatchResult, ◌↔◌, ◌⊎◌}
-use Rattle.std.proofs.lemmas.List.{length-map}
-use Rattle.std.proofs.lemmas.Slice.Zip.{length-zip}
+use Rattle.std.proofs.Common.{◌≡◌, Bool, true, false, List, refl, sym, ap, subst, ◌∙◌, inl, inr}
+use Rattle.std.specs.Prelude.{Result, Ok, Err, IfErr, MatchResult, ◌⊎◌}
+use Rattle.std.specs.Result.{result_map_both}
 use Rattle.circle_field.specs.declared.field.Operations.{Ghosts}
 use Rattle.circle_challenger.specs.Moves.{RunMoves}
 use Rattle.circle_commit.specs.declared.error.FriError.{FriError}
@@ -12,27 +10,26 @@ use Rattle.circle_commit.specs.declared.params.FriParameters.{FriParameters}
 use Rattle.circle_commit.specs.declared.pcs.CommitmentOpening.{CommitmentOpening}
 use Rattle.circle_domain.specs.declared.domain.CircleDomain.{CircleDomain}
 use Rattle.circle_domain.specs.Selectors.{IsFinite}
+use Rattle.circle_point.specs.Projective.{is_at_infinity}
 use Rattle.circle_relation.specs.declared.error.InputError.{InputError}
 use Rattle.circle_relation.specs.declared.proof.CirclePcsProof.{CirclePcsProof}
-use Rattle.circle_relation.specs.Statement.{Challenges}
 use Rattle.circle_relation.specs.StatementOf.{batch_claims}
-use Rattle.circle_relation.specs.Accepts.{Fields, Authenticates, Accepts}
-use Rattle.circle_relation.specs.Reasons.{IsReason}
+use Rattle.circle_relation.specs.Accepts.{Fields, Authenticates, Accepts, AcceptsFrom}
 use Rattle.circle_relation.specs.RunOf.{proof_of, run_with}
-use Rattle.circle_relation.proofs.Contradictions.{only_memory}
+use Rattle.circle_relation.specs.Taken.{challenges_of, drawn_by}
 use Rattle.circle_relation.specs.TestsInOrder.{Test, answer}
-use Rattle.circle_verifier.specs.Refusals.{seeding_tests}
-use Rattle.circle_point.specs.Projective.{is_at_infinity}
-use Rattle.circle_verifier.specs.Tested.{rounds_due, IsTested}
-use Rattle.circle_relation.specs.Taken.{drawn_by}
-use Rattle.circle_verifier.specs.Replay.{IsMissedIn}
-use Rattle.p3_circle.specs.Verdict.{IsAccepted, IsDrawnFrom, draw_from}
-use Rattle.p3_circle.proofs.Known.{PartsPass, known, all_pass}
-use Rattle.circle_relation.proofs.Passed.{AllPass, passed, passes, pass-front, pass-back, pass-both}
-use Rattle.circle_verifier.proofs.Seeding.{claims_part, parameters_part, shape_part, final_part}
-use Rattle.circle_verifier.proofs.Seeding.{points_part, parts-are}
-use Rattle.circle_prover.proofs.Counts.{betas-count, queries-count}
-use Rattle.circle_verifier.proofs.Verified.{tested, not_true, false_not, challenges-told}
+use Rattle.circle_relation.proofs.Answering.{passed-value, refused-value}
+use Rattle.circle_relation.proofs.Contradictions.{only_memory}
+use Rattle.circle_verifier.specs.declared.drawn.DrawnRun.{DrawnRun}
+use Rattle.circle_verifier.specs.declared.tested.TestedRun.{TestedRun}
+use Rattle.circle_verifier.specs.OfDrawn.{IsAccepted, IsRefused}
+use Rattle.circle_verifier.specs.OfTested.{parts_of, IsTestedOf}
+use Rattle.circle_verifier.specs.Replay.{AreDrawn, AreNotDrawn, IsMissedIn}
+use Rattle.circle_verifier.specs.Tests.{run_tests}
+use Rattle.circle_verifier.proofs.Known.{answer-of}
+use Rattle.circle_verifier.proofs.Replayed.{queries-drawn}
+use Rattle.circle_verifier.proofs.Verified.{tested, challenges-told}
+use Rattle.p3_circle.specs.Verdict.{IsRefusedAfter, draw_from}
 
 pub at_err : {T E : Type 0} (P : E → Type 0) (x : Result T E) (e : E) → x ≡ Err e → P e → IfErr x P
 at_err P x e is h = subst (λ y. IfErr y P) (sym is) h
@@ -67,143 +64,111 @@ later-by {E = E} ts Later e s t is later =
     (λ (a : Result (Unit {0}) E). MatchResult a (λ passed. Later) (λ first. (e ≡ first) × (t ≡ s)))
     (sym is) later
 
-module _ {F E I W IC ID IP IE WC WD WP WE : Type 0} {g : Ghosts F} (k : Fields F E) (two : ℕ)
-    (p : FriParameters W)
+-- what the tests of a run say of the parts that it is made of
+module _ {F E I W IC ID IP IE WC WD WP WE : Type 0} {g over inputs ic ip ie words wc wp we : _}
+    (result :
+    Result (TestedRun F E I W IC ID IP IE WC WD WP WE g over inputs ic ip ie words wc wp we)
+    (FriError WE (InputError IE WE))) (p : FriParameters W)
     (claims : List (CommitmentOpening E IC (CircleDomain F g)))
-    (proof : CirclePcsProof F E I W F IC ID IP IE WC WD WP WE) (eq : F → F → Bool) (null : F)
-    (same : E → E → Bool) where
-  abbrev pub tests : List (Test (FriError WE (InputError IE WE)))
-  tests = seeding_tests two (λ w. eq w null) (is_at_infinity same k.extension) p
-      (batch_claims claims) (proof_of proof)
+    (proof : CirclePcsProof F E I W F IC ID IP IE WC WD WP WE)
+    (is : IsTestedOf result p claims proof) where
+  pub first-refused : (e : FriError WE (InputError IE WE)) → result ≡ Err e →
+      answer (run_tests over.fields p claims proof) (tt {0}) ≡ Err e
+  first-refused e was =
+      refused-value (run_tests over.fields p claims proof) _ e
+      (sym is ∙ ap (result_map_both parts_of (λ x. x)) was)
 
-  abbrev pub Tested : Type 0
-  Tested = IsTested two (λ w. eq w null) (is_at_infinity same k.extension) p (batch_claims claims)
-      (proof_of proof)
+  pub none-refused :
+      (t : TestedRun F E I W IC ID IP IE WC WD WP WE g over inputs ic ip ie words wc wp we) →
+      result ≡ Ok t → (answer (run_tests over.fields p claims proof) (tt {0}) ≡ Ok (tt {0}))
+      × ((p, claims, proof) ≡ parts_of t)
+  none-refused t was =
+      passed-value (run_tests over.fields p claims proof) _ _
+      (sym is ∙ ap (result_map_both parts_of (λ x. x)) was)
 
-  abbrev z : F → Bool
-  z w = eq w null
-
-  abbrev i : E → Bool
-  i t = is_at_infinity same k.extension t
-
-  -- tests that pass, part by part
-  parts-of : {V : Type 0} (v w : V) → answer tests v ≡ Ok w →
-      PartsPass two z i p (batch_claims claims) (proof_of proof) WE IE WE
-  parts-of v w is =
-      let cs = claims_part {C = WE} {A = IE} {B = WE} two z i p (batch_claims claims)
-      (proof_of proof) in
-      let ps = parameters_part {C = WE} {A = IE} {B = WE} two z i p (batch_claims claims)
-      (proof_of proof) in
-      let ss = shape_part {C = WE} {A = IE} {B = WE} two z i p (batch_claims claims)
-      (proof_of proof) in
-      let fs = final_part {C = WE} {A = IE} {B = WE} two z i p (batch_claims claims)
-      (proof_of proof) in
-      let qs = points_part {C = WE} {A = IE} {B = WE} two z i p (batch_claims claims)
-      (proof_of proof) in
-      let all =
-      subst (AllPass {E = FriError WE (InputError IE WE)})
-      (parts-are two z i p (batch_claims claims) (proof_of proof)) (passed tests v w is) in
-      let rest = pass-back cs _ all in
-      let rest' = pass-back ps _ rest in
-      let rest'' = pass-back ss _ rest' in
-      record {
-        claims = pass-front cs _ all;
-        parameters = pass-front ps _ rest;
-        shape = pass-front ss _ rest';
-        final = pass-front fs qs rest'';
-        points = pass-back fs qs rest'';
-      }
-
-  pub tested-of : {V : Type 0} (v w : V) → answer tests v ≡ Ok w → Tested
-  tested-of v w is = known two z i p (batch_claims claims) (proof_of proof) WE IE WE
-      (parts-of v w is)
-
-  pub answer-of : Tested → answer tests (tt {0}) ≡ Ok (tt {0})
-  answer-of t =
-      let parts = all_pass two z i p (batch_claims claims) (proof_of proof) WE IE WE t in
-      passes tests (tt {0})
-      (subst (AllPass {E = FriError WE (InputError IE WE)})
-      (sym (parts-are two z i p (batch_claims claims) (proof_of proof)))
-      (pass-both _ _ parts.claims
-      (pass-both _ _ parts.parameters
-      (pass-both _ _ parts.shape (pass-both _ _ parts.final parts.points)))))
-
-module _ {C S F E I W IC ID IP IE WC WD WP WE : Type 0} {g : Ghosts F} (k : Fields F E)
-    (m : RunMoves C S F E WC) (p : FriParameters W)
+-- what is accepted passes the tests, and there is no reason but want of memory to refuse it
+module _ {C S F E I W IC ID IP IE WC WD WP WE : Type 0} {g : Ghosts F} {k : Fields F E}
+    {m : RunMoves C S F E WC} {p : FriParameters W} {inputs : Authenticates IC F IP}
+    {words : Authenticates WC E WP} {old left : S}
     (claims : List (CommitmentOpening E IC (CircleDomain F g)))
-    (proof : CirclePcsProof F E I W F IC ID IP IE WC WD WP WE) (eq : F → F → Bool) (null : F)
-    (same : E → E → Bool) where
-  abbrev z' : F → Bool
-  z' w = eq w null
+    (proof : CirclePcsProof F E I W F IC ID IP IE WC WD WP WE)
+    (a : AcceptsFrom k p m inputs words (batch_claims claims) (proof_of proof) old left) where
+  pub accepted-passes : ((w : F) → w ≡ k.field.zero → k.is_zero w ≡ true) →
+      ((t : E) → IsFinite k.extension t → is_at_infinity k.same k.extension t ≡ false) →
+      answer (run_tests k p claims proof) (tt {0}) ≡ Ok (tt {0})
+  accepted-passes zero finite =
+      answer-of k.two_adicity k.is_zero (λ t. is_at_infinity k.same k.extension t) p
+      (batch_claims claims) (proof_of proof) WE IE WE
+      (tested k k.is_zero (λ t. is_at_infinity k.same k.extension t) p (batch_claims claims)
+      (proof_of proof) a.drawn
+      (queries-drawn m p k.extension (batch_claims claims) (proof_of proof) old left a.drawn a.draws)
+      zero finite a.accepts)
 
-  abbrev i' : E → Bool
-  i' t = is_at_infinity same k.extension t
+  pub missed-memory : (e : FriError WE (InputError IE WE)) →
+      (e ≡ Memory) ⊎ IsMissedIn (draw_from k m p claims proof old) e → e ≡ Memory
+  missed-memory e (inl memory) = memory
+  missed-memory e (inr miss) =
+      absurd (not_both (draw_from k m p claims proof old) _ _ a.draws miss.missed)
 
-  -- the due numbers of challenges and queries are drawn
-  pub queries-drawn : (old new : S) (c : Challenges E) → IsDrawnFrom k m p claims proof old c new →
-      length c.queries ≡ p.num_queries
-  queries-drawn old new c is = queries-count m _ _ _ _ is
+pub reason-memory : {C S F E I W IC ID IP IE WC WD WP WE : Type 0} {g : Ghosts F} {k : Fields F E}
+    {m : RunMoves C S F E WC} {inputs : I → Authenticates IC F IP}
+    {words : W → Authenticates WC E WP} {mmcs : I} {p : FriParameters W}
+    {claims : List (CommitmentOpening E IC (CircleDomain F g))}
+    {proof : CirclePcsProof F E I W F IC ID IP IE WC WD WP WE} {input_memory : IE → Bool}
+    {word_memory : WE → Bool} {old new left : S} {e : FriError WE (InputError IE WE)} →
+    ((a b : E) → m.base.coefficients a ≡ m.base.coefficients b → a ≡ b) →
+    IsRefusedAfter k m inputs words mmcs p claims proof input_memory word_memory old new e →
+    AcceptsFrom k p m (inputs mmcs) (words p.mmcs) (batch_claims claims) (proof_of proof) old left →
+    e ≡ Memory
+reason-memory {k = k} {m = m} {inputs = inputs} {words = words} {mmcs = mmcs} {p = p}
+    {claims = claims} {proof = proof} {input_memory = input_memory} {word_memory = word_memory}
+    {new = new} {left = left} {e = e} told r a =
+    let both : Ok (drawn_by m.base.coefficients r.drawn new)
+    ≡ Ok (drawn_by m.base.coefficients a.drawn left) = sym r.draws ∙ a.draws in
+    let drawn : drawn_by m.base.coefficients r.drawn new ≡ drawn_by m.base.coefficients a.drawn left
+    = cc in
+    let one = challenges-told m.base.coefficients told r.drawn a.drawn new left drawn in
+    let accepts =
+    subst (λ d. Accepts k p (run_with claims proof d) (inputs mmcs) (words p.mmcs)) (sym one)
+    a.accepts in
+    only_memory k p (run_with claims proof r.drawn) (inputs mmcs) (words p.mmcs) input_memory
+    word_memory e r.reason accepts.inputs_shape accepts.fit.claimed accepts.fit.large accepts.holds
 
-  pub betas-drawn : (old new : S) (c : Challenges E) →
-      Tested k k.two_adicity p claims proof eq null same →
-      IsDrawnFrom k m p claims proof old c new → length c.betas ≡ rounds_due p (batch_claims claims)
-  betas-drawn old new c t is =
-      let count = betas-count m _ _ _ _ is in
-      let listed = length-map c.betas m.base.coefficients in
-      let zipped = length-zip (proof_of proof).commitments (proof_of proof).witnesses in
-      omega (arith, count, listed, zipped, t.commitments, t.witnesses)
+-- what a run with its challenges says of the parts that it is made of
+module _ {C S F E I W IC ID IP IE WC WD WP WE : Type 0} {g over inputs ic ip ie words wc wp we : _}
+    {m : RunMoves C S F E WC}
+    (d : DrawnRun F E I W IC ID IP IE WC WD WP WE g over inputs ic ip ie words wc wp we)
+    (p : FriParameters W) (claims : List (CommitmentOpening E IC (CircleDomain F g)))
+    (proof : CirclePcsProof F E I W F IC ID IP IE WC WD WP WE)
+    (same : (p, claims, proof) ≡ parts_of d.run) (mmcs : I) (old new : C)
+    (draws : AreDrawn m d.run old d.draws new) where
+  pub accepted-of : IsAccepted d mmcs →
+      AcceptsFrom over.fields p m (inputs.authenticates mmcs) (words.authenticates p.mmcs)
+      (batch_claims claims) (proof_of proof) (m.base.state old) (m.base.state new)
+  accepted-of accepts =
+      subst
+      (λ x. AcceptsFrom over.fields x.0 m (inputs.authenticates mmcs) (words.authenticates x.0.mmcs)
+      (batch_claims x.1) (proof_of x.2) (m.base.state old) (m.base.state new)) (sym same)
+      (record { drawn = challenges_of d.draws; draws = draws; accepts = accepts })
 
-  module _ (eq_law : (a b : F) → (eq a b ≡ true) ↔ (a ≡ b)) (null_law : null ≡ k.field.zero)
-      (same_law : (a b : E) → (same a b ≡ true) ↔ (a ≡ b)) where
-    pub zero-of : (w : F) → z' w ≡ true → w ≡ k.field.zero
-    zero-of w h = (eq_law w null).0 h ∙ null_law
+  pub refused-of : (e : FriError WE (InputError IE WE)) → IsRefused d mmcs e →
+      IsRefusedAfter over.fields m inputs.authenticates words.authenticates mmcs p claims proof
+      inputs.is_memory words.is_memory (m.base.state old) (m.base.state new) e
+  refused-of e reason =
+      subst
+      (λ x. IsRefusedAfter over.fields m inputs.authenticates words.authenticates mmcs x.0 x.1 x.2
+      inputs.is_memory words.is_memory (m.base.state old) (m.base.state new) e) (sym same)
+      (record { drawn = challenges_of d.draws; draws = draws; reason = reason })
 
-    pub zero-from : (w : F) → w ≡ k.field.zero → z' w ≡ true
-    zero-from w h = (eq_law w null).1 (h ∙ sym null_law)
-
-    pub finite-of : (t : E) → i' t ≡ false → IsFinite k.extension t
-    finite-of t h at = false_not (i' t) h ((same_law _ _).1 at)
-
-    pub finite-from : (t : E) → IsFinite k.extension t → i' t ≡ false
-    finite-from t h = not_true (i' t) (λ at. h ((same_law _ _).0 at))
-
-    module _ (inputs : I → Authenticates IC F IP) (words : W → Authenticates WC E WP) (mmcs : I)
-      where
-        -- what is accepted passes the tests
-        pub accepted-passes : (old left : S) →
-            IsAccepted k m inputs words mmcs p claims proof old left →
-            answer (tests k k.two_adicity p claims proof eq null same) (tt {0}) ≡ Ok (tt {0})
-        accepted-passes old left a =
-            answer-of k k.two_adicity p claims proof eq null same
-            (tested k z' i' p (batch_claims claims) (proof_of proof) a.drawn
-            (queries-drawn old left a.drawn a.draws) zero-from finite-from a.accepts)
-
-        -- a phase that is missed is not accepted
-        pub missed-memory : (old left : S) (e : FriError WE (InputError IE WE)) →
-            (e ≡ Memory) ⊎ IsMissedIn (draw_from k m p claims proof old) e →
-            IsAccepted k m inputs words mmcs p claims proof old left → e ≡ Memory
-        missed-memory old left e (inl memory) a = memory
-        missed-memory old left e (inr miss) a =
-            absurd (not_both (draw_from k m p claims proof old) _ _ a.draws miss.missed)
-
-        -- nor is what there is reason to refuse
-        pub reason-memory : ((a b : E) → m.base.coefficients a ≡ m.base.coefficients b → a ≡ b) →
-            (input_memory : IE → Bool) (word_memory : WE → Bool) (old new left : S)
-            (c : Challenges E)
-            (e : FriError WE (InputError IE WE)) →
-            IsDrawnFrom k m p claims proof old c new →
-            IsReason k p (run_with claims proof c) (inputs mmcs) (words p.mmcs) input_memory
-            word_memory e →
-            IsAccepted k m inputs words mmcs p claims proof old left → e ≡ Memory
-        reason-memory told input_memory word_memory old new left c e is why a =
-            let both : Ok (drawn_by m.base.coefficients c new) ≡ Ok
-            (drawn_by m.base.coefficients a.drawn left) = sym is ∙ a.draws in
-            let drawn : drawn_by m.base.coefficients c new ≡ drawn_by m.base.coefficients a.drawn
-            left = cc in
-            let one = challenges-told m.base.coefficients told c a.drawn new left drawn in
-            let accepts =
-            subst (λ d. Accepts k p (run_with claims proof d) (inputs mmcs) (words p.mmcs))
-            (sym one) a.accepts in
-            only_memory k p (run_with claims proof c) (inputs mmcs) (words p.mmcs) input_memory
-            word_memory e why accepts.inputs_shape accepts.fit.claimed accepts.fit.large
-            accepts.holds
+-- and one whose challenges can't be drawn
+pub undrawn-of : {C S F E I W IC ID IP IE WC WD WP WE : Type 0}
+    {g over inputs ic ip ie words wc wp we : _} (m : RunMoves C S F E WC)
+    (t : TestedRun F E I W IC ID IP IE WC WD WP WE g over inputs ic ip ie words wc wp we)
+    (p : FriParameters W) (claims : List (CommitmentOpening E IC (CircleDomain F g)))
+    (proof : CirclePcsProof F E I W F IC ID IP IE WC WD WP WE) (old : C)
+    (e : FriError WE (InputError IE WE)) → (p, claims, proof) ≡ parts_of t → AreNotDrawn m t old e →
+    (e ≡ Memory) ⊎ IsMissedIn (draw_from over.fields m p claims proof (m.base.state old)) e
+undrawn-of {over = over} m t p claims proof old e same undrawn =
+    subst
+    (λ x. (e ≡ Memory)
+    ⊎ IsMissedIn (draw_from over.fields m x.0 x.1 x.2 (m.base.state old)) e) (sym same) undrawn

@@ -50,9 +50,9 @@
 //!   calls as relations of lists and states; `SchemeFacts`, `SchemeLaws` and the folder
 //!   `SchemeLaws`: the proofs of the traits' laws. `Calls`: names that clauses use. `Constant`:
 //!   folding to a constant. `Searches`: an example of searches.
-//! - In `proofs/`, `Known`, `InOrder`, `Scheme`: tests. `Verdicts`: the result of `verify`.
-//!   `Degrees`: a last codeword of too high degree. `OwnRows`: the rows that codewords are combined
-//!   of. `Constants`, `ConstantSeeds`.
+//! - In `proofs/`, `InOrder`, `Scheme`: tests. `Verdicts`: the result of `verify`. `Degrees`: a
+//!   last codeword of too high degree. `OwnRows`: the rows that codewords are combined of.
+//!   `Constants`, `ConstantSeeds`.
 #![tactic(auto)]
 
 pub mod commit;
@@ -61,7 +61,6 @@ pub mod laws;
 pub mod pcs;
 pub mod round_trip;
 pub mod transcript;
-mod verdict;
 pub mod verifier;
 
 pub use circle_challenger::{CanObserve, CanSample, FieldChallenger, GrindingChallenger};

@@ -30,6 +30,7 @@ use circle_prover::{
     ProverError, log_min_trace_height, open_requests, validate_heights, validate_requests,
 };
 use circle_relation::{CirclePcsProof, OverCircle, VerifierError};
+use circle_verifier::TestedRun;
 use std::alloc::Global;
 use std::marker::PhantomData;
 
@@ -245,7 +246,9 @@ impl<Val: ComplexExtendable, InputMmcs: Mmcs<Val>, FriMmcs> CirclePcs<Val, Input
         ensures reason { let p = ⟦<Self as Pcs<EF, C>>⟧ in IfErr result (p.verify_refuses self.now
             claims.items proof.now (C.state challenger.old) (C.state challenger.new)) }
     {
-        self.verify_claims(alloc, &claims, proof, challenger)
+        let run = TestedRun::<Val, EF, InputMmcs, FriMmcs>::new(&self.fri_params, &claims, proof)?;
+        let drawn = run.replay_transcript(alloc, challenger)?;
+        drawn.verify(alloc, &self.mmcs)
     }
 
     /// The binary logarithm of the greatest number of rows that the group has a standard domain

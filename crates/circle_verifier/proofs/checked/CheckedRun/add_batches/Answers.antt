@@ -1,9 +1,8 @@
 use Rattle.std.proofs.Common.{◌≡◌, ◌+◌, ◌≤◌, ◌<◌, ◌++◌, ◌∙◌, refl, sym, ap, subst, length, map}
-use Rattle.std.proofs.Common.{take, All, arith, slice_index_or, []}
+use Rattle.std.proofs.Common.{take, get_or, All, arith, []}
 use Rattle.std.specs.Prelude.{zip}
-use Rattle.std.proofs.lemmas.List.{length-map, get_or-map, take_all}
+use Rattle.std.proofs.lemmas.List.{length-map, take_all}
 use Rattle.std.proofs.lemmas.List.Elements.{All-append, All-nil}
-use Rattle.std.proofs.lemmas.Slice.Zip.{length-zip}
 use Rattle.std.proofs.lemmas.Option.{MatchOption-from_none}
 use Rattle.circle_field.specs.Circle.{origin}
 use Rattle.circle_commit.specs.Mmcs.{opened_rows}
@@ -16,8 +15,8 @@ use Rattle.circle_verifier.specs.OfRun.{run_of}
 use Rattle.circle_relation.specs.Sums.{claims_at, all_claims_at, HasRowsOf, AreApartFrom}
 use Rattle.circle_relation.specs.Sums.{AreApartAt, Adds}
 use Rattle.circle_relation.proofs.ReducedSums.{adds-both, adds-same, adds-none}
-use Rattle.circle_verifier.proofs.ReducedRows.{pair-read, of-batch, all_matrices-more}
-use Rattle.circle_verifier.proofs.ReducedRows.{all_claims-more}
+use Rattle.circle_verifier.proofs.CheckedRows.{rows-read, matrices-read, claims-read}
+use Rattle.circle_verifier.proofs.Items.{All-read-part}
 use Rattle.circle_verifier.proofs.ReducedValues.{below-top}
 use Rattle.circle_verifier.proofs.checked.CheckedRun.add_batches.Goals as goal
 
@@ -49,32 +48,8 @@ add_batch-requires-clause-points g c = c.requires.points ∙ sym c.loop-i.invari
 
 pub add_batch-requires-clause-opened : goal.add_batch-requires-clause-opened
 add_batch-requires-clause-opened g c =
-    let claims = c.args.self.now.run.claims.now in
-    let batches = (run_of c.args.self.now.run).batches in
-    let i = c.loop-i.i in
-    let b = batch_claim c.batch-item.result in
-    let inside : i < length batches =
-    omega (arith, c.loop-i-test.true, length-map claims batch_claim) in
-    let is : slice_index_or batches i b ≡ b =
-    get_or-map batch_claim claims i c.batch-item.result b c.loop-i-test.true
-    ∙ ap batch_claim (sym c.batch-item.is) in
-    let inputs = (run_of c.args.self.now.run).proof.inputs in
-    let openings = c.args.self.now.run.proof.now.fri_proof.input_openings.input_openings.items in
-    let o = opened_batch c.index.result.now in
-    let within : i < length inputs = omega (arith, inside, c.args.self.now.opened.shape.inputs) in
-    let in_list : i < length openings = omega (arith, within, length-map openings opened_batch) in
-    let is_o : slice_index_or inputs i o ≡ o =
-    get_or-map opened_batch openings i c.index.result.now o in_list
-    ∙ ap opened_batch (sym c.index.ensures) in
-    let both : i < length (zip batches inputs) =
-    omega (arith, inside, within, c.args.self.now.opened.shape.inputs, length-zip batches inputs) in
-    let has : (length o.entries ≡ length c.args.self.now.run.indices.now)
-    × All (HasRowsOf b.matrices)
-    o.entries =
-    subst (λ p. (length p.1.entries ≡ length c.args.self.now.run.indices.now)
-    × All (HasRowsOf p.0.matrices) p.1.entries) (pair-read batches inputs i b o inside within
-    is is_o)
-    (c.args.self.now.opened.shape.rows i (b, o) both) in
+    let has = rows-read c.args.self.now c.loop-i.i c.batch-item.result c.index.result.now
+    c.loop-i-test.true c.batch-item.is c.index.ensures in
     omega (
       arith,
       has.0,
@@ -86,86 +61,38 @@ add_batch-requires-clause-opened g c =
 
 pub add_batch-requires-clause-rows : goal.add_batch-requires-clause-rows
 add_batch-requires-clause-rows g c =
-    let claims = c.args.self.now.run.claims.now in
-    let batches = (run_of c.args.self.now.run).batches in
-    let i = c.loop-i.i in
-    let b = batch_claim c.batch-item.result in
-    let inside : i < length batches =
-    omega (arith, c.loop-i-test.true, length-map claims batch_claim) in
-    let is : slice_index_or batches i b ≡ b =
-    get_or-map batch_claim claims i c.batch-item.result b c.loop-i-test.true
-    ∙ ap batch_claim (sym c.batch-item.is) in
-    let inputs = (run_of c.args.self.now.run).proof.inputs in
-    let openings = c.args.self.now.run.proof.now.fri_proof.input_openings.input_openings.items in
-    let o = opened_batch c.index.result.now in
-    let within : i < length inputs = omega (arith, inside, c.args.self.now.opened.shape.inputs) in
-    let in_list : i < length openings = omega (arith, within, length-map openings opened_batch) in
-    let is_o : slice_index_or inputs i o ≡ o =
-    get_or-map opened_batch openings i c.index.result.now o in_list
-    ∙ ap opened_batch (sym c.index.ensures) in
-    let both : i < length (zip batches inputs) =
-    omega (arith, inside, within, c.args.self.now.opened.shape.inputs, length-zip batches inputs) in
-    let has : (length o.entries ≡ length c.args.self.now.run.indices.now)
-    × All (HasRowsOf b.matrices)
-    o.entries =
-    subst (λ p. (length p.1.entries ≡ length c.args.self.now.run.indices.now)
-    × All (HasRowsOf p.0.matrices) p.1.entries) (pair-read batches inputs i b o inside within
-    is is_o)
-    (c.args.self.now.opened.shape.rows i (b, o) both) in
+    let has = rows-read c.args.self.now c.loop-i.i c.batch-item.result c.index.result.now
+    c.loop-i-test.true c.batch-item.is c.index.ensures in
+    let matrices = (batch_claim c.batch-item.result).matrices in
     subst (λ ms. All (HasRowsOf (matrix_claims ms)) (opened_rows c.deref.result.now))
     (sym c.deref-in-loop-i.ensures.value)
-    (subst (λ rs. All (HasRowsOf b.matrices) (opened_rows rs)) (sym c.deref.ensures.value) has.1)
+    (subst (λ rs. All (HasRowsOf matrices) (opened_rows rs)) (sym c.deref.ensures.value) has.1)
 
 pub add_batch-requires-clause-enough : goal.add_batch-requires-clause-enough
 add_batch-requires-clause-enough g c =
-    let claims = c.args.self.now.run.claims.now in
-    let batches = (run_of c.args.self.now.run).batches in
-    let i = c.loop-i.i in
-    let b = batch_claim c.batch-item.result in
-    let inside : i < length batches =
-    omega (arith, c.loop-i-test.true, length-map claims batch_claim) in
-    let is : slice_index_or batches i b ≡ b =
-    get_or-map batch_claim claims i c.batch-item.result b c.loop-i-test.true
-    ∙ ap batch_claim (sym c.batch-item.is) in
     let P =
     λ (m : MatrixClaim g.row.EF.Denot). All
     (λ p. length p.values < length c.args.word.now.powers.now) m.claims in
     subst (λ ms. All P (matrix_claims ms)) (sym c.deref-in-loop-i.ensures.value)
-    (of-batch batches i b inside is P c.requires.enough)
+    (All-read-part P (λ b. b.matrices) batch_claim c.args.self.now.run.claims.now c.loop-i.i
+    c.batch-item.result c.requires.enough c.loop-i-test.true c.batch-item.is)
 
 pub add_batch-requires-clause-finite : goal.add_batch-requires-clause-finite
 add_batch-requires-clause-finite g c =
-    let claims = c.args.self.now.run.claims.now in
-    let batches = (run_of c.args.self.now.run).batches in
-    let i = c.loop-i.i in
-    let b = batch_claim c.batch-item.result in
-    let inside : i < length batches =
-    omega (arith, c.loop-i-test.true, length-map claims batch_claim) in
-    let is : slice_index_or batches i b ≡ b =
-    get_or-map batch_claim claims i c.batch-item.result b c.loop-i-test.true
-    ∙ ap batch_claim (sym c.batch-item.is) in
     let P = λ (m : MatrixClaim g.row.EF.Denot). All (λ p. IsFinite g.EF.Operations.ops p.point)
     m.claims in
     subst (λ ms. All P (matrix_claims ms)) (sym c.deref-in-loop-i.ensures.value)
-    (of-batch batches i b inside is P c.args.self.now.run.drawn.finite)
+    (All-read-part P (λ b. b.matrices) batch_claim c.args.self.now.run.claims.now c.loop-i.i
+    c.batch-item.result c.args.self.now.run.drawn.finite c.loop-i-test.true c.batch-item.is)
 
 pub add_batch-requires-clause-small : goal.add_batch-requires-clause-small
 add_batch-requires-clause-small g c =
-    let claims = c.args.self.now.run.claims.now in
-    let batches = (run_of c.args.self.now.run).batches in
-    let i = c.loop-i.i in
-    let b = batch_claim c.batch-item.result in
-    let inside : i < length batches =
-    omega (arith, c.loop-i-test.true, length-map claims batch_claim) in
-    let is : slice_index_or batches i b ≡ b =
-    get_or-map batch_claim claims i c.batch-item.result b c.loop-i-test.true
-    ∙ ap batch_claim (sym c.batch-item.is) in
-    let P = λ (m : MatrixClaim g.row.EF.Denot). log_height c.args.word.now.log_blowup m ≤ 62 in
-    subst (λ ms. All P (matrix_claims ms)) (sym c.deref-in-loop-i.ensures.value)
-    (of-batch batches i b inside is P (λ j m lt.
-    let below = below-top c.args.word.now.log_blowup (all_matrices batches) j m lt in
     let o = c.args.self.now.run in
-    let high = ap (λ n. log_max_height n (all_matrices batches)) c.requires.blowup in
+    let matrices = all_matrices (run_of o).batches in
+    let P = λ (m : MatrixClaim g.row.EF.Denot). log_height c.args.word.now.log_blowup m ≤ 62 in
+    let all : All P matrices = λ j m lt.
+    let below = below-top c.args.word.now.log_blowup matrices j m lt in
+    let high = ap (λ n. log_max_height n matrices) c.requires.blowup in
     omega (
       arith,
       below,
@@ -173,26 +100,21 @@ add_batch-requires-clause-small g c =
       o.drawn.top,
       o.drawn.in_group,
       g.met.Val.ComplexExtendable.at_most_62,
-    )))
+    ) in
+    subst (λ ms. All P (matrix_claims ms)) (sym c.deref-in-loop-i.ensures.value)
+    (All-read-part P (λ b. b.matrices) batch_claim o.claims.now c.loop-i.i c.batch-item.result all
+    c.loop-i-test.true c.batch-item.is)
 
 pub returns-in_err-offset-clause-none : goal.returns-in_err-offset-clause-none
 returns-in_err-offset-clause-none g c = λ none apart.
-    let claims = c.args.self.now.run.claims.now in
-    let batches = (run_of c.args.self.now.run).batches in
-    let i = c.loop-i.i in
-    let b = batch_claim c.batch-item.result in
-    let inside : i < length batches =
-    omega (arith, c.loop-i-test.true, length-map claims batch_claim) in
-    let is : slice_index_or batches i b ≡ b =
-    get_or-map batch_claim claims i c.batch-item.result b c.loop-i-test.true
-    ∙ ap batch_claim (sym c.batch-item.is) in
     let far = λ (m : MatrixClaim g.row.EF.Denot). log_height c.args.word.now.log_blowup m
     ≡ c.args.word.now.log_height →
     AreApartFrom g.EF.Operations.ops g.EF.ExtensionField.embed
     (map coordinates c.args.word.now.points.now) m.claims in
     c.in_err-offset.ensures.none refl
     (subst (λ ms. All far (matrix_claims ms)) (sym c.deref-in-loop-i.ensures.value)
-    (of-batch batches i b inside is far apart))
+    (All-read-part far (λ b. b.matrices) batch_claim c.args.self.now.run.claims.now c.loop-i.i
+    c.batch-item.result apart c.loop-i-test.true c.batch-item.is))
 
 pub returns-in_err-offset-clause-apart : goal.returns-in_err-offset-clause-apart
 returns-in_err-offset-clause-apart g c =
@@ -210,23 +132,11 @@ loop-i-preserved g c =
     let z = origin g.Val.Operations.ops in
     let h = c.args.word.now.log_height in
     let blowup = c.args.word.now.log_blowup in
-    let claims = c.args.self.now.run.claims.now in
     let batches = (run_of c.args.self.now.run).batches in
+    let inputs = (run_of c.args.self.now.run).proof.inputs in
     let i = c.loop-i.i in
     let b = batch_claim c.batch-item.result in
-    let inside : i < length batches =
-    omega (arith, c.loop-i-test.true, length-map claims batch_claim) in
-    let is : slice_index_or batches i b ≡ b =
-    get_or-map batch_claim claims i c.batch-item.result b c.loop-i-test.true
-    ∙ ap batch_claim (sym c.batch-item.is) in
-    let inputs = (run_of c.args.self.now.run).proof.inputs in
-    let openings = c.args.self.now.run.proof.now.fri_proof.input_openings.input_openings.items in
     let o = opened_batch c.index.result.now in
-    let within : i < length inputs = omega (arith, inside, c.args.self.now.opened.shape.inputs) in
-    let in_list : i < length openings = omega (arith, within, length-map openings opened_batch) in
-    let is_o : slice_index_or inputs i o ≡ o =
-    get_or-map opened_batch openings i c.index.result.now o in_list
-    ∙ ap opened_batch (sym c.index.ensures) in
     let now = c.add_batch.new.sums in
     let after = c.in_ok-offset.offset in
     let far = λ (m : MatrixClaim g.row.EF.Denot). log_height blowup m ≡ h →
@@ -239,7 +149,9 @@ loop-i-preserved g c =
     let one = claims_at blowup h b.matrices o.entries in
     record {
       counted = omega (arith, c.loop-i.invariant.counted, c.add_batch.auto.sums);
-      apart = subst (All far) (sym (all_matrices-more batches i b inside is))
+      apart = subst (All far) (sym
+          (matrices-read c.args.self.now i c.batch-item.result c.index.result.now c.loop-i-test.true
+          c.batch-item.is c.index.ensures))
           (All-append far (all_matrices (take i batches)) b.matrices c.loop-i.invariant.apart here);
       adds = λ alpha are.
           let step : Adds l embed alpha points z one c.loop-i.offset after c.loop-i.sums now =
@@ -254,7 +166,9 @@ loop-i-preserved g c =
           c.args.sums.now now
           (adds-both l embed alpha points z before one l.one c.loop-i.offset after c.args.sums.now
           c.loop-i.sums now (c.loop-i.invariant.adds alpha are) step)
-          (λ j lt. all_claims-more batches i b inside is blowup h inputs o within is_o j);
+          (λ j lt.
+          claims-read c.args.self.now i c.batch-item.result c.index.result.now c.loop-i-test.true
+          c.batch-item.is c.index.ensures blowup h j);
     }
 
 pub returns-clause-apart : goal.returns-clause-apart

@@ -3,23 +3,24 @@ use Rattle.circle_relation.specs.Accepts.{Fields}
 use Rattle.circle_relation.specs.RunOf.{proof_of, run_with}
 use Rattle.circle_relation.specs.StatementOf.{batch_claims}
 use Rattle.circle_relation.specs.Taken.{challenges_of}
+use Rattle.circle_verifier.specs.OfDrawn.{drawn_run}
 use Rattle.circle_verifier.proofs.Verified.{challenges, is_drawn, false_not}
-use Rattle.circle_verifier.proofs.queries.opened_run.Given as given
-use Rattle.circle_verifier.proofs.queries.opened_run.Goals as goal
-use Rattle.circle_verifier.proofs.queries.opened_run.Goals.{After-deref-2}
+use Rattle.circle_verifier.proofs.drawn.DrawnRun.opened.Given as given
+use Rattle.circle_verifier.proofs.drawn.DrawnRun.opened.Goals as goal
+use Rattle.circle_verifier.proofs.drawn.DrawnRun.opened.Goals.{After-deref-2}
 
 -- the run is that of the claims and the proof, with these challenges
 run-is : (g : given.Over) (c : After-deref-2 g) →
-    let draws = c.args.draws.now in
-    run_with c.args.claims.now c.args.proof.now
-    (challenges draws.alpha draws.bivariate c.deref.result.now c.deref-2.result.now)
-    ≡ run_with c.args.claims.now c.args.proof.now (challenges_of draws)
+    let d = c.args.self.now in
+    run_with d.run.claims.now d.run.proof.now
+    (challenges d.draws.alpha d.draws.bivariate c.deref.result.now c.deref-2.result.now)
+    ≡ drawn_run d
 run-is g c =
-    let draws = c.args.draws.now in
-    let with = λ (betas : _) (queries : _). run_with c.args.claims.now c.args.proof.now
-    (challenges draws.alpha draws.bivariate betas queries) in
+    let d = c.args.self.now in
+    let with = λ (betas : _) (queries : _). run_with d.run.claims.now d.run.proof.now
+    (challenges d.draws.alpha d.draws.bivariate betas queries) in
     ap (λ betas. with betas c.deref-2.result.now) c.deref.ensures.value
-    ∙ ap (with draws.betas.items) c.deref-2.ensures.value
+    ∙ ap (with d.draws.betas.items) c.deref-2.ensures.value
 
 pub returns-clause-run : goal.returns-clause-run
 returns-clause-run g c = run-is g (goal.at.returns-clause-run g c).After-deref-2
@@ -36,9 +37,10 @@ invariant_of-result g c =
       embed = g.EF.ExtensionField.embed;
       same = g.EF.PartialEq.eq;
     } in
+    let d = c.args.self.now in
     record {
-      drawn = is_drawn k _ _ c.args.params.now (batch_claims c.args.claims.now)
-          (proof_of c.args.proof.now) (challenges_of c.args.draws.now) c.requires.count
-          (λ t h at. false_not _ h ((g.met.EF.Field.eq_law _ _).1 at)) c.requires.tested
-          c.requires.top c.requires.betas c.requires.below (run-is g c);
+      drawn = is_drawn k _ _ d.run.params.now (batch_claims d.run.claims.now)
+          (proof_of d.run.proof.now) (challenges_of d.draws) d.count
+          (λ t h at. false_not _ h ((g.met.EF.Field.eq_law _ _).1 at)) d.run.tested d.run.top d.betas
+          d.below (run-is g c);
     }

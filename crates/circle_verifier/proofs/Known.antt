@@ -1,8 +1,8 @@
 -- What is known where no test before the seeding has reason to refuse, and that none has where it
 -- is known.
 use Rattle.std.proofs.Common.{not, ◌==◌, ◌&&◌, ◌||◌, ◌≡◌, ◌≢◌, ℕ, Bool, true, false, ◌+◌, ◌^◌, ◌≤◌}
-use Rattle.std.proofs.Common.{List, [], ◌∷◌, length, map, refl, sym, ap, ◌∙◌, arith}
-use Rattle.std.specs.Prelude.{All}
+use Rattle.std.proofs.Common.{List, [], ◌∷◌, length, map, refl, sym, ap, subst, ◌∙◌, arith}
+use Rattle.std.specs.Prelude.{Ok, All}
 use Rattle.std.specs.List.{list_all, list_any, AllByRecursion}
 use Rattle.std.proofs.lemmas.Bool.{leb-false, lt-leb, ltb-false, le-ltb, eqb-true, eqb-false}
 use Rattle.std.proofs.lemmas.Bool.{eq-eqb, ne_eqb}
@@ -10,16 +10,19 @@ use Rattle.std.proofs.lemmas.List.{length-map}
 use Rattle.std.proofs.lemmas.List.Elements.{All-from_recursion, recursion_from_All}
 use Rattle.std.proofs.lemmas.List.Sums.{AllPass-from_list_all, list_all-from_AllPass}
 use Rattle.circle_commit.specs.Mmcs.{greatest}
+use Rattle.circle_commit.specs.declared.error.FriError.{FriError}
 use Rattle.circle_commit.specs.declared.params.FriParameters.{FriParameters}
 use Rattle.circle_relation.specs.declared.error.InputError.{InputError}
 use Rattle.circle_relation.specs.Statement.{MatrixClaim, BatchClaim, OpeningProof, all_matrices}
 use Rattle.circle_relation.specs.Statement.{log_sizes, log_max_height}
+use Rattle.circle_relation.specs.TestsInOrder.{answer}
 use Rattle.circle_verifier.specs.Refusals.{domain_tests, sibling_tests, round_tests, rounds_tests}
 use Rattle.circle_verifier.specs.Refusals.{some_claim}
 use Rattle.circle_verifier.specs.Tested.{rounds_due, IsTested}
-use Rattle.circle_relation.proofs.Passed.{AllPass, pass-front, pass-back, pass-both}
+use Rattle.circle_relation.proofs.Passed.{AllPass, passed, passes, pass-front, pass-back}
+use Rattle.circle_relation.proofs.Passed.{pass-both}
 use Rattle.circle_verifier.proofs.Seeding.{claims_part, parameters_part, shape_part, final_part}
-use Rattle.circle_verifier.proofs.Seeding.{points_part, height_of_claims}
+use Rattle.circle_verifier.proofs.Seeding.{points_part, all_parts, parts-are, height_of_claims}
 
 -- numbers that don't differ
 same-from : (a b : ℕ) → not (a == b) ≡ false → a ≡ b
@@ -330,3 +333,36 @@ module _ {F E M Com WordCom InputProof WordProof : Type 0} (two : ℕ) (is_zero 
         top_known [] all some = absurd (omega (arith, some))
         top_known (n ∷ ns) all some =
             height_of_claims p.log_blowup (n ∷ ns) (let here = all.0 in omega (arith, here))
+
+    -- where the tests refuse nothing all is known, and where all is known they refuse nothing
+    pub tested-of : {V : Type 0} (v w : V) →
+        answer (all_parts {C = C} {A = A} {B = B} two is_zero is_infinite p batches proof) v ≡ Ok w
+        → IsTested two is_zero is_infinite p batches proof
+    tested-of v w is =
+        let all =
+        subst (AllPass {E = FriError C (InputError A B)})
+        (parts-are two is_zero is_infinite p batches proof)
+        (passed (all_parts two is_zero is_infinite p batches proof) v w is) in
+        let rest = pass-back (claims_part two is_zero is_infinite p batches proof) _ all in
+        let rest' = pass-back (parameters_part two is_zero is_infinite p batches proof) _ rest in
+        let rest'' = pass-back (shape_part two is_zero is_infinite p batches proof) _ rest' in
+        let last = final_part two is_zero is_infinite p batches proof in
+        known (record {
+          claims = pass-front (claims_part two is_zero is_infinite p batches proof) _ all;
+          parameters = pass-front (parameters_part two is_zero is_infinite p batches proof) _ rest;
+          shape = pass-front (shape_part two is_zero is_infinite p batches proof) _ rest';
+          final = pass-front last (points_part two is_zero is_infinite p batches proof) rest'';
+          points = pass-back last (points_part two is_zero is_infinite p batches proof) rest'';
+        })
+
+    pub answer-of : IsTested two is_zero is_infinite p batches proof →
+        answer (all_parts {C = C} {A = A} {B = B} two is_zero is_infinite p batches proof) (tt {0})
+        ≡ Ok (tt {0})
+    answer-of t =
+        let parts = all_pass t in
+        passes (all_parts two is_zero is_infinite p batches proof) (tt {0})
+        (subst (AllPass {E = FriError C (InputError A B)})
+        (sym (parts-are two is_zero is_infinite p batches proof))
+        (pass-both _ _ parts.claims
+        (pass-both _ _ parts.parameters
+        (pass-both _ _ parts.shape (pass-both _ _ parts.final parts.points)))))
