@@ -1,10 +1,11 @@
 //! The pairs at the queries fold as the whole codeword does.
 ghost use Rattle.std.specs.Prelude.{◌≡◌, ◌≢◌, ◌≤◌, ◌<◌, ◌^◌, length, All, IsTrue};
+ghost use Rattle.circle_field.specs.Mersenne31.{operations};
 
 use super::rows::folded;
 use super::{cubic, rows_of_two};
 use crate::transform::{MEMORY, are_nonzero};
-use circle_field::{Cubic, Field, Mersenne31, Operations};
+use circle_field::{Cubic, Field, Mersenne31};
 use circle_folding::{
     first_layer_twiddles, first_x_twiddles, fold_query_values, next_x_twiddles, query_pairs,
     query_points,
@@ -100,7 +101,7 @@ fn can_fold(
     ensures siblings { IsTrue result → length siblings.now ≡ length indices.now }
     ensures twiddles { IsTrue result → length twiddles.now ≡ length indices.now }
     ensures nonzero { IsTrue result
-        → All (λ twiddle. twiddle ≢ ⟦<Mersenne31 as Operations>⟧.ops.zero) twiddles.now }
+        → All (λ twiddle. twiddle ≢ operations.zero) twiddles.now }
 {
     let count = indices.len();
     let have_one_each = values.len() == count && siblings.len() == count;
