@@ -1,7 +1,6 @@
 pub mod Answered
 pub mod Asked
 pub mod CommittedHeights
-pub mod Counts
 pub mod FoldedLengths
 pub mod Growing
 pub mod Held

@@ -38,8 +38,8 @@
 //!   fails, `Schemes` the whole by the schemes. `OfFoldable`: the same over the value of a run.
 //! - In `proofs/`, `CommittedHeights`, `OnDomain`, `RequestLists` and `Unrefused` are of the tests,
 //!   `Growing`, `Lengths` and `FoldedLengths` of codewords, `Tops`, `Seen` and `TallMatrices` of
-//!   heights, `Counts` and `Stuck` of the transcript, `Asked`, `Answered` and `Requested` of
-//!   requested matrices as claims, `Held` and `OpenedPairs` of what a proof holds and opens. The
+//!   heights, `Stuck` of the transcript, `Asked`, `Answered` and `Requested` of requested matrices
+//!   as claims, `Held` and `OpenedPairs` of what a proof holds and opens. The
 //!   folders have what is proved of the functions of the file of that name.
 #![tactic(auto)]
 

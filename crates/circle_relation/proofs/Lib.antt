@@ -1,6 +1,7 @@
 pub mod Answering
 pub mod AtQueries
 pub mod Contradictions
+pub mod Counts
 pub mod Described
 pub mod Ends
 pub mod Kept

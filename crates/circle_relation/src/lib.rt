@@ -19,8 +19,8 @@
 //!   is reason for.
 //! - In `proofs/`, `Contradictions`: where the relation holds no refusal has a reason but want of
 //!   memory. `AtQueries`, `ReducedSums`, `Ends`: lists over queries. `Pairs`: loops over pairs.
-//!   `Described`: what describes a transcript. `Answering`, `Passed`: tests in order. `Kept`,
-//!   `Shown`, `Results`.
+//!   `Described`: what describes a transcript. `Counts`: how much it draws. `Answering`, `Passed`:
+//!   tests in order. `Kept`, `Shown`, `Results`.
 #![tactic(auto)]
 
 pub mod error;

@@ -1,6 +1,5 @@
 pub mod CheckedRows
 pub mod Claimed
-pub mod Counts
 pub mod Domains
 pub mod Finite
 pub mod FirstLayerPlaces

@@ -14,7 +14,7 @@ use Rattle.circle_commit.specs.declared.params.FriParameters.{FriParameters}
 use Rattle.circle_relation.specs.Statement.{BatchClaim, MatrixClaim, OpeningProof, Challenges}
 use Rattle.circle_relation.specs.Statement.{log_max_height}
 use Rattle.circle_relation.specs.Taken.{drawn_by}
-use Rattle.circle_verifier.proofs.Counts.{betas-count, queries-count}
+use Rattle.circle_relation.proofs.Counts.{betas-count, queries-count}
 use Rattle.circle_transcript.specs.declared.failure.CircleTranscriptFailure.{CircleTranscriptFailure}
 use Rattle.circle_transcript.specs.declared.failure.CircleTranscriptFailure.TheVariants.{Memory as OutOfMemory}
 use Rattle.circle_transcript.specs.Failure.{phase_of}

@@ -1,8 +1,9 @@
 -- The tests before the seeding, one part after another.
 use Rattle.std.proofs.Common.{rules, ◌==◌, ◌≡◌, ℕ, Bool, true, false, ◌+◌, ◌-◌, ◌<◌, ◌≤◌, List, []}
 use Rattle.std.proofs.Common.{◌∷◌, ◌++◌, length, map, vec_len, refl, sym, ap, ◌∙◌, arith}
-use Rattle.std.specs.Prelude.{Ok, Err, Vec, ◌||◌}
+use Rattle.std.specs.Prelude.{Result, Ok, Vec, ◌||◌}
 use Rattle.std.specs.List.{list_any}
+use Rattle.std.specs.Result.{result_and}
 use Rattle.std.proofs.lemmas.Bool.{leb-false}
 use Rattle.std.specs.declared.alloc.Global.{Global}
 use Rattle.circle_field.specs.declared.field.Operations.{Ghosts}
@@ -24,9 +25,8 @@ use Rattle.circle_relation.specs.TestsInOrder.{Test, answer}
 use Rattle.circle_verifier.specs.Refusals.{claim_tests, domain_tests, parameter_tests, shape_tests}
 use Rattle.circle_verifier.specs.Refusals.{final_test, point_tests, some_point, some_claim}
 use Rattle.circle_verifier.specs.Refusals.{seeding_tests}
-use Rattle.circle_relation.proofs.Answering.{passed-value}
-use Rattle.circle_relation.proofs.Passed.{AllPass, passed, passes, pass-back, front_refuses}
-use Rattle.circle_relation.proofs.Passed.{front_passes}
+use Rattle.circle_relation.proofs.Answering.{answer-append, answer-none, passed-value}
+use Rattle.circle_relation.proofs.Passed.{AllPass, passed, pass-back}
 use Rattle.circle_verifier.proofs.HeightTests.{raised}
 
 module _ {F E M Com WordCom InputProof WordProof C A B : Type 0} (two : ℕ) (is_zero : F → Bool)
@@ -61,55 +61,29 @@ module _ {F E M Com WordCom InputProof WordProof C A B : Type 0} (two : ℕ) (is
   unfolding seeding_tests
   parts-are = refl
 
-  module _ {V : Type 0} (v : V) (e : FriError C (InputError A B)) where
-    pub claims_refuse : {U : Type 0} (u : U) → answer claims_part u ≡ Err e → answer all_parts v
-        ≡ Err e
-    claims_refuse u is = ap (λ ts. answer ts v) parts-are ∙ front_refuses claims_part _ u v e is
+  -- each part decides where those before it refuse nothing
+  pub in-turn : {V : Type 0} (v : V) → answer all_parts v
+      ≡ result_and (answer claims_part (tt {0}))
+      (result_and (answer parameters_part (tt {0}))
+      (result_and (answer shape_part (tt {0}))
+      (result_and (answer final_part (tt {0}))
+      (result_and (answer points_part (tt {0})) (Ok v)))))
+  in-turn v =
+      ap (λ ts. answer ts v) parts-are ∙ answer-append claims_part _ v
+      ∙ ap (result_and (answer claims_part (tt {0})))
+      (answer-append parameters_part _ v
+      ∙ ap (result_and (answer parameters_part (tt {0})))
+      (answer-append shape_part _ v
+      ∙ ap (result_and (answer shape_part (tt {0})))
+      (answer-append final_part points_part v
+      ∙ ap (result_and (answer final_part (tt {0})))
+      (answer-append points_part [] v
+      ∙ ap (result_and (answer points_part (tt {0}))) (answer-none v)))))
 
-    pub parameters_refuse : {U : Type 0} (u w : U) → answer claims_part u ≡ Ok w →
-        answer parameters_part (tt {0}) ≡ Err e → answer all_parts v ≡ Err e
-    parameters_refuse u w first is =
-        ap (λ ts. answer ts v) parts-are ∙ front_passes claims_part _ u w v first
-        ∙ front_refuses parameters_part _ (tt {0}) v e is
-
-    pub shape_refuses : {U : Type 0} (u w : U) → answer claims_part u ≡ Ok w →
-        answer parameters_part (tt {0}) ≡ Ok (tt {0}) → answer shape_part (tt {0}) ≡ Err e →
-        answer all_parts v ≡ Err e
-    shape_refuses u w first second is =
-        ap (λ ts. answer ts v) parts-are ∙ front_passes claims_part _ u w v first
-        ∙ front_passes parameters_part _ (tt {0}) (tt {0}) v second
-        ∙ front_refuses shape_part _ (tt {0}) v e is
-
-    pub final_refuses : {U : Type 0} (u w : U) → answer claims_part u ≡ Ok w →
-        answer parameters_part (tt {0}) ≡ Ok (tt {0}) → answer shape_part (tt {0}) ≡ Ok (tt {0})
-        → answer final_part (tt {0}) ≡ Err e → answer all_parts v ≡ Err e
-    final_refuses u w first second third is =
-        ap (λ ts. answer ts v) parts-are ∙ front_passes claims_part _ u w v first
-        ∙ front_passes parameters_part _ (tt {0}) (tt {0}) v second
-        ∙ front_passes shape_part _ (tt {0}) (tt {0}) v third
-        ∙ front_refuses final_part _ (tt {0}) v e is
-
-    pub points_refuse : {U : Type 0} (u w : U) → answer claims_part u ≡ Ok w →
-        answer parameters_part (tt {0}) ≡ Ok (tt {0}) → answer shape_part (tt {0}) ≡ Ok (tt {0})
-        → answer final_part (tt {0}) ≡ Ok (tt {0}) → answer points_part (tt {0}) ≡ Err e →
-        answer all_parts v ≡ Err e
-    points_refuse u w first second third fourth is =
-        ap (λ ts. answer ts v) parts-are ∙ front_passes claims_part _ u w v first
-        ∙ front_passes parameters_part _ (tt {0}) (tt {0}) v second
-        ∙ front_passes shape_part _ (tt {0}) (tt {0}) v third
-        ∙ front_passes final_part _ (tt {0}) (tt {0}) v fourth
-        ∙ front_refuses points_part [] (tt {0}) v e is
-
-  pub none_refuses : {U V : Type 0} (v : V) (u w : U) → answer claims_part u ≡ Ok w →
-      answer parameters_part (tt {0}) ≡ Ok (tt {0}) → answer shape_part (tt {0}) ≡ Ok (tt {0})
-      → answer final_part (tt {0}) ≡ Ok (tt {0}) → answer points_part (tt {0}) ≡ Ok (tt {0}) →
-      answer all_parts v ≡ Ok v
-  none_refuses v u w first second third fourth fifth =
-      ap (λ ts. answer ts v) parts-are ∙ front_passes claims_part _ u w v first
-      ∙ front_passes parameters_part _ (tt {0}) (tt {0}) v second
-      ∙ front_passes shape_part _ (tt {0}) (tt {0}) v third
-      ∙ front_passes final_part _ (tt {0}) (tt {0}) v fourth
-      ∙ passes points_part v (passed points_part (tt {0}) (tt {0}) fifth)
+-- what is known of the part that is due
+pub turned : {V E : Type 0} {x y : Result (Unit {0}) E} (rest : Result V E) → x ≡ y →
+    result_and x rest ≡ result_and y rest
+turned rest same = ap (λ r. result_and r rest) same
 
 module _ (C A B : Type 0) (two blowup final : ℕ) where
   -- claims that are not refused leave something to fold

@@ -31,7 +31,7 @@ use Rattle.circle_prover.specs.Words.{AreWordsOf, taken_in, top_of}
 use Rattle.circle_prover.proofs.Answered.{all-some, heights-known, if_ok2}
 use Rattle.circle_relation.proofs.Results.{if_err}
 use Rattle.circle_prover.proofs.Asked.{all-taken, all-widths, top-claimed}
-use Rattle.circle_prover.proofs.Counts.{queries-count}
+use Rattle.circle_relation.proofs.Counts.{queries-count}
 use Rattle.circle_relation.proofs.Described.{claims_widths, shape_is}
 use Rattle.circle_prover.specs.declared.run.CommittedWords.{CommittedWords}
 use Rattle.circle_prover.proofs.Seen.{top-seen}

@@ -1,10 +1,12 @@
-use Rattle.std.proofs.Common.{◌≡◌, ◌≢◌, ℕ, ◌+◌, ◌≤◌, ◌<◌, [], ◌++◌, ◌∙◌, refl, sym, ap, subst}
-use Rattle.std.proofs.Common.{length, map, take, All, arith, slice_index_or}
+use Rattle.std.proofs.Common.{◌≡◌, ◌≢◌, ℕ, ◌+◌, ◌≤◌, ◌<◌, List, [], ◌++◌, ◌∙◌, refl, sym, ap, subst}
+use Rattle.std.proofs.Common.{length, map, take, get_or, All, arith, slice_index_or}
 use Rattle.std.proofs.lemmas.List.{length-map, get_or-map, take_all}
 use Rattle.std.proofs.lemmas.List.Elements.{All-more, All-nil}
 use Rattle.std.proofs.lemmas.Option.{MatchOption-from_none}
 use Rattle.circle_field.specs.Circle.{origin}
 use Rattle.circle_commit.specs.Mmcs.{opened_rows}
+use Rattle.circle_commit.specs.declared.pcs.MatrixOpening.{MatrixOpening}
+use Rattle.circle_domain.specs.declared.domain.CircleDomain.{CircleDomain}
 use Rattle.circle_domain.specs.Selectors.{IsFinite}
 use Rattle.circle_point.specs.Point.{coordinates}
 use Rattle.circle_folding.specs.Queries.{rows_of}
@@ -12,11 +14,21 @@ use Rattle.circle_relation.specs.Statement.{PointClaim, MatrixClaim, log_height}
 use Rattle.circle_relation.specs.StatementOf.{point_claim, matrix_claim, matrix_claims}
 use Rattle.circle_relation.specs.Sums.{on_row, claims_at, AreApartFrom, AreApartAt, Adds}
 use Rattle.circle_relation.proofs.ReducedSums.{adds-both, adds-same, adds-none}
-use Rattle.circle_verifier.proofs.ReducedRows.{All-there, All-under, rows-wide, claims-more}
-use Rattle.circle_verifier.proofs.ReducedRows.{claims-other}
+use Rattle.circle_verifier.proofs.Items.{All-read}
+use Rattle.circle_verifier.proofs.ReducedRows.{All-under, rows-wide, claims-more, claims-other}
 use Rattle.circle_verifier.proofs.reduced.add_batch.Goals as goal
 use Rattle.circle_verifier.proofs.reduced.add_batch.Goals.{then-log_n-word+in_ok-after}
 use Rattle.circle_verifier.proofs.reduced.add_batch.Goals.{else-log_n-word}
+
+-- the matrix in a place among the claims
+module _ {F E : Type 0} {g : _} (matrices : List (MatrixOpening E (CircleDomain F g))) (i : ℕ) where
+  within : i < length matrices → i < length (matrix_claims matrices)
+  within lt = omega (arith, lt, length-map matrices matrix_claim)
+
+  item-read : (m : MatrixOpening E (CircleDomain F g)) → i < length matrices → m ≡ get_or matrices i m
+      → slice_index_or (matrix_claims matrices) i (matrix_claim m) ≡ matrix_claim m
+  item-read m lt is =
+      get_or-map matrix_claim matrices i m (matrix_claim m) lt ∙ ap matrix_claim (sym is)
 
 pub loop-i-init : goal.loop-i-init
 loop-i-init g c =
@@ -34,16 +46,10 @@ loop-i-init g c =
 
 pub overflow_add-log_n : goal.overflow_add-log_n
 overflow_add-log_n g c =
-    let matrices = c.args.matrices.now in
-    let m = matrix_claim c.index-matrices-i.result in
-    let inside : c.loop-i.i < length (matrix_claims matrices) =
-    omega (arith, c.loop-i-test.true, length-map matrices matrix_claim) in
-    let is : slice_index_or (matrix_claims matrices) c.loop-i.i m ≡ m =
-    get_or-map matrix_claim matrices c.loop-i.i c.index-matrices-i.result m c.loop-i-test.true
-    ∙ ap matrix_claim (sym c.index-matrices-i.is) in
-    let small : log_height c.args.word.now.log_blowup m ≤ 62 =
-    All-there (λ m. log_height c.args.word.now.log_blowup m ≤ 62) (matrix_claims matrices)
-    c.loop-i.i m c.requires.small inside is in
+    let small =
+    All-read (λ m. log_height c.args.word.now.log_blowup m ≤ 62) matrix_claim c.args.matrices.now
+    c.loop-i.i c.index-matrices-i.result c.requires.small c.loop-i-test.true
+    c.index-matrices-i.is in
     omega (arith, small, c.log_n.ensures)
 
 pub add_matrix-requires-clause-points : goal.add_matrix-requires-clause-points
@@ -54,77 +60,48 @@ add_matrix-requires-clause-opened g c = c.requires.opened ∙ sym c.loop-i.invar
 
 pub add_matrix-requires-clause-rows : goal.add_matrix-requires-clause-rows
 add_matrix-requires-clause-rows g c =
-    let matrices = c.args.matrices.now in
-    let m = matrix_claim c.index-matrices-i.result in
+    let ms = matrix_claims c.args.matrices.now in
+    let matrix = c.index-matrices-i.result in
     let i = c.loop-i.i in
-    let inside : i < length (matrix_claims matrices) =
-    omega (arith, c.loop-i-test.true, length-map matrices matrix_claim) in
-    let is : slice_index_or (matrix_claims matrices) i m ≡ m =
-    get_or-map matrix_claim matrices i c.index-matrices-i.result m c.loop-i-test.true
-    ∙ ap matrix_claim (sym c.index-matrices-i.is) in
     let entries = opened_rows c.args.opened.now in
     let wide =
     λ (p : PointClaim g.row.EF.Denot). All
     (λ rows. (i < length rows) × (length (slice_index_or rows i []) ≡ length p.values))
     entries in
     subst (All (λ p. wide (point_claim p))) (sym c.deref.ensures.value)
-    (All-under wide point_claim c.index-matrices-i.result.points.items
-    (rows-wide c.args.word.now.log_blowup c.args.word.now.log_height (matrix_claims matrices)
-    entries c.requires.rows i m inside is))
+    (All-under wide point_claim matrix.points.items
+    (rows-wide c.args.word.now.log_blowup c.args.word.now.log_height ms entries c.requires.rows i
+    (matrix_claim matrix) (within c.args.matrices.now i c.loop-i-test.true)
+    (item-read c.args.matrices.now i matrix c.loop-i-test.true c.index-matrices-i.is)))
 
 pub add_matrix-requires-clause-enough : goal.add_matrix-requires-clause-enough
 add_matrix-requires-clause-enough g c =
-    let matrices = c.args.matrices.now in
-    let m = matrix_claim c.index-matrices-i.result in
-    let i = c.loop-i.i in
-    let inside : i < length (matrix_claims matrices) =
-    omega (arith, c.loop-i-test.true, length-map matrices matrix_claim) in
-    let is : slice_index_or (matrix_claims matrices) i m ≡ m =
-    get_or-map matrix_claim matrices i c.index-matrices-i.result m c.loop-i-test.true
-    ∙ ap matrix_claim (sym c.index-matrices-i.is) in
     let fits =
     λ (p : PointClaim g.row.EF.Denot). length p.values < length c.args.word.now.powers.now in
     subst (All (λ p. fits (point_claim p))) (sym c.deref.ensures.value)
     (All-under fits point_claim c.index-matrices-i.result.points.items
-    (All-there (λ m. All fits m.claims) (matrix_claims matrices) i m c.requires.enough inside
-    is))
+    (All-read (λ m. All fits m.claims) matrix_claim c.args.matrices.now c.loop-i.i
+    c.index-matrices-i.result c.requires.enough c.loop-i-test.true c.index-matrices-i.is))
 
 pub add_matrix-requires-clause-finite : goal.add_matrix-requires-clause-finite
 add_matrix-requires-clause-finite g c =
-    let matrices = c.args.matrices.now in
-    let m = matrix_claim c.index-matrices-i.result in
-    let i = c.loop-i.i in
-    let inside : i < length (matrix_claims matrices) =
-    omega (arith, c.loop-i-test.true, length-map matrices matrix_claim) in
-    let is : slice_index_or (matrix_claims matrices) i m ≡ m =
-    get_or-map matrix_claim matrices i c.index-matrices-i.result m c.loop-i-test.true
-    ∙ ap matrix_claim (sym c.index-matrices-i.is) in
     let finite = λ (p : PointClaim g.row.EF.Denot). IsFinite g.EF.Operations.ops p.point in
     subst (All (λ p. finite (point_claim p))) (sym c.deref.ensures.value)
     (All-under finite point_claim c.index-matrices-i.result.points.items
-    (All-there (λ m. All finite m.claims) (matrix_claims matrices) i m c.requires.finite inside
-    is))
+    (All-read (λ m. All finite m.claims) matrix_claim c.args.matrices.now c.loop-i.i
+    c.index-matrices-i.result c.requires.finite c.loop-i-test.true c.index-matrices-i.is))
 
 pub returns-in_err-after-clause-none : goal.returns-in_err-after-clause-none
 returns-in_err-after-clause-none g c = λ none apart.
-    let matrices = c.args.matrices.now in
-    let h = c.args.word.now.log_height in
-    let blowup = c.args.word.now.log_blowup in
-    let m = matrix_claim c.index-matrices-i.result in
-    let i = c.loop-i.i in
-    let inside : i < length (matrix_claims matrices) =
-    omega (arith, c.loop-i-test.true, length-map matrices matrix_claim) in
-    let is : slice_index_or (matrix_claims matrices) i m ≡ m =
-    get_or-map matrix_claim matrices i c.index-matrices-i.result m c.loop-i-test.true
-    ∙ ap matrix_claim (sym c.index-matrices-i.is) in
     let far =
     AreApartFrom g.EF.Operations.ops g.EF.ExtensionField.embed
     (map coordinates c.args.word.now.points.now) in
-    let same : log_height blowup m ≡ h = omega (arith, c.if-log_n-word.true, c.log_n.ensures) in
+    let word = c.args.word.now in
     c.in_err-after.ensures.none refl
     (subst (λ ps. far (map point_claim ps)) (sym c.deref.ensures.value)
-    (All-there (λ m. log_height blowup m ≡ h → far m.claims) (matrix_claims matrices) i m apart
-    inside is same))
+    (All-read (λ m. log_height word.log_blowup m ≡ word.log_height → far m.claims) matrix_claim
+    c.args.matrices.now c.loop-i.i c.index-matrices-i.result apart c.loop-i-test.true
+    c.index-matrices-i.is (omega (arith, c.if-log_n-word.true, c.log_n.ensures))))
 
 pub returns-in_err-after-clause-apart : goal.returns-in_err-after-clause-apart
 returns-in_err-after-clause-apart g c =
@@ -148,11 +125,8 @@ loop-i-preserved g c =
     let ms = matrix_claims matrices in
     let i = c.loop-i.i in
     let entries = opened_rows c.args.opened.now in
-    let inside : i < length ms =
-    omega (arith, c.loop-i-test.true, length-map matrices matrix_claim) in
-    let is : slice_index_or ms i m ≡ m =
-    get_or-map matrix_claim matrices i matrix m c.loop-i-test.true
-    ∙ ap matrix_claim (sym c.index-matrices-i.is) in
+    let inside = within matrices i c.loop-i-test.true in
+    let is = item-read matrices i matrix c.loop-i-test.true c.index-matrices-i.is in
     let far = λ (m : MatrixClaim g.row.EF.Denot). log_height blowup m ≡ h →
     AreApartFrom l embed points m.claims in
     let long : length entries ≡ length c.args.sums.now =

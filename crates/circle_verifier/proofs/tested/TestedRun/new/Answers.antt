@@ -4,13 +4,12 @@ use Rattle.circle_relation.specs.Statement.{all_matrices, log_max_height}
 use Rattle.circle_relation.specs.StatementOf.{batch_claims}
 use Rattle.circle_relation.specs.RunOf.{proof_of}
 use Rattle.circle_relation.specs.TestsInOrder.{answer}
-use Rattle.circle_relation.proofs.Answering.{refused-is}
+use Rattle.circle_relation.proofs.Answering.{refused-is, passed-value, refused-value}
 use Rattle.circle_point.specs.Projective.{is_at_infinity}
 use Rattle.circle_verifier.specs.OfTested.{parts_of}
 use Rattle.circle_verifier.proofs.Known.{tested-of}
-use Rattle.circle_verifier.proofs.Seeding.{claims_refuse, parameters_refuse, shape_refuses}
-use Rattle.circle_verifier.proofs.Seeding.{final_refuses, points_refuse, none_refuses, claims_known}
-use Rattle.circle_verifier.proofs.Seeding.{shape_same, final_same, points_same_tests, all_parts}
+use Rattle.circle_verifier.proofs.Seeding.{in-turn, turned, claims_known, shape_same, final_same}
+use Rattle.circle_verifier.proofs.Seeding.{points_same_tests, all_parts}
 use Rattle.circle_verifier.proofs.tested.TestedRun.new.Given.{Over}
 use Rattle.circle_verifier.proofs.tested.TestedRun.new.Goals as goal
 use Rattle.circle_verifier.proofs.tested.TestedRun.new.Goals.{In_ok-log_max_height}
@@ -45,38 +44,42 @@ whole g c v =
     let high = claims_known g.row.FriMmcs-Error.Denot g.row.InputMmcs-Error.Denot
     g.row.FriMmcs-Error.Denot g.Val.ComplexExtendable.CIRCLE_TWO_ADICITY
     p.log_blowup p.log_final_poly_len (all_matrices batches) _ first in
-    none_refuses g.Val.ComplexExtendable.CIRCLE_TWO_ADICITY _ _ p batches
-    (proof_of c.args.proof.now) v _ _ first
-    (sym c.validate_parameters.ensures ∙ c.in_ok-validate_parameters.was)
+    in-turn g.Val.ComplexExtendable.CIRCLE_TWO_ADICITY _ _ c.args.params.now
+    (batch_claims c.args.claims.now) (proof_of c.args.proof.now) v
+    ∙ turned _ (passed-value _ _ _ first).0
+    ∙ turned _ (sym c.validate_parameters.ensures ∙ c.in_ok-validate_parameters.was)
+    ∙ turned _
     (shape_same _ p fri batches _ high.2 ∙ sym c.validate_proof_shape.ensures
     ∙ c.in_ok-validate_proof_shape.was)
+    ∙ turned _
     (final_same p.log_final_poly_len fri.final_poly _ c.len.ensures ∙ sym c.check_final_poly.ensures
     ∙ c.in_ok-check_final_poly.was)
+    ∙ turned _
     (points_same_tests p _ _ c.args.claims.now ∙ sym c.validate_points.ensures
     ∙ c.in_ok-validate_points.was)
 
 pub returns-in_err-log_max_height : goal.returns-in_err-log_max_height
 returns-in_err-log_max_height g c =
-    let batches = batch_claims c.args.claims.now in
     ap (result_map_both parts_of (λ e. e))
-    (refused-is c.from_residual.result c.in_err-log_max_height.field-0.0 c.from_residual.ensures.1)
-    ∙ sym (claims_refuse g.Val.ComplexExtendable.CIRCLE_TWO_ADICITY _ _ c.args.params.now batches
-    (proof_of c.args.proof.now)
-    (c.args.params.now, c.args.claims.now, c.args.proof.now)
-    c.in_err-log_max_height.field-0.0 _
-    (sym c.validate_claims.ensures ∙ c.in_err-log_max_height.was))
+    (refused-is c.from_residual.result c.in_err-log_max_height.field-0.0
+    c.from_residual.ensures.1)
+    ∙ sym
+    (in-turn g.Val.ComplexExtendable.CIRCLE_TWO_ADICITY _ _ c.args.params.now
+    (batch_claims c.args.claims.now) (proof_of c.args.proof.now) _
+    ∙ turned _
+    (refused-value _ _ _ (sym c.validate_claims.ensures ∙ c.in_err-log_max_height.was)))
 
 pub returns-in_err-validate_parameters : goal.returns-in_err-validate_parameters
 returns-in_err-validate_parameters g c =
-    let batches = batch_claims c.args.claims.now in
     ap (result_map_both parts_of (λ e. e))
-    (refused-is c.from_residual-in_err-validate_parameters.result
-    c.in_err-validate_parameters.field-0.0 c.from_residual-in_err-validate_parameters.ensures.1)
-    ∙ sym (parameters_refuse g.Val.ComplexExtendable.CIRCLE_TWO_ADICITY _ _ c.args.params.now
-    batches (proof_of c.args.proof.now)
-    (c.args.params.now, c.args.claims.now, c.args.proof.now)
-    c.in_err-validate_parameters.field-0.0 _ _
-    (sym c.validate_claims.ensures ∙ c.in_ok-log_max_height.was)
+    (refused-is c.from_residual-in_err-validate_parameters.result c.in_err-validate_parameters.field-0.0
+    c.from_residual-in_err-validate_parameters.ensures.1)
+    ∙ sym
+    (in-turn g.Val.ComplexExtendable.CIRCLE_TWO_ADICITY _ _ c.args.params.now
+    (batch_claims c.args.claims.now) (proof_of c.args.proof.now) _
+    ∙ turned _
+    (passed-value _ _ _ (sym c.validate_claims.ensures ∙ c.in_ok-log_max_height.was)).0
+    ∙ turned _
     (sym c.validate_parameters.ensures ∙ c.in_err-validate_parameters.was))
 
 pub overflow_sub-num_commit_rounds : goal.overflow_sub-num_commit_rounds
@@ -96,18 +99,17 @@ returns-in_err-validate_proof_shape g c =
     let p = c.args.params.now in
     let fri = c.args.proof.now.fri_proof in
     let batches = batch_claims c.args.claims.now in
-    let first = sym c.validate_claims.ensures ∙ c.in_ok-log_max_height.was in
     let high = known g (goal.at.returns-in_err-validate_proof_shape g c).In_ok-log_max_height in
     ap (result_map_both parts_of (λ e. e))
-    (refused-is c.from_residual-in_err-validate_proof_shape.result
-    c.in_err-validate_proof_shape.field-0.0
+    (refused-is c.from_residual-in_err-validate_proof_shape.result c.in_err-validate_proof_shape.field-0.0
     c.from_residual-in_err-validate_proof_shape.ensures.1)
     ∙ sym
-    (shape_refuses g.Val.ComplexExtendable.CIRCLE_TWO_ADICITY _ _ p batches
-    (proof_of c.args.proof.now)
-    (p, c.args.claims.now, c.args.proof.now) c.in_err-validate_proof_shape.field-0.0 _ _
-    first
-    (sym c.validate_parameters.ensures ∙ c.in_ok-validate_parameters.was)
+    (in-turn g.Val.ComplexExtendable.CIRCLE_TWO_ADICITY _ _ c.args.params.now
+    (batch_claims c.args.claims.now) (proof_of c.args.proof.now) _
+    ∙ turned _
+    (passed-value _ _ _ (sym c.validate_claims.ensures ∙ c.in_ok-log_max_height.was)).0
+    ∙ turned _ (sym c.validate_parameters.ensures ∙ c.in_ok-validate_parameters.was)
+    ∙ turned _
     (shape_same _ p fri batches _ high.2 ∙ sym c.validate_proof_shape.ensures
     ∙ c.in_err-validate_proof_shape.was))
 
@@ -121,19 +123,20 @@ returns-in_err-check_final_poly g c =
     let p = c.args.params.now in
     let fri = c.args.proof.now.fri_proof in
     let batches = batch_claims c.args.claims.now in
-    let first = sym c.validate_claims.ensures ∙ c.in_ok-log_max_height.was in
     let high = known g (goal.at.returns-in_err-check_final_poly g c).In_ok-log_max_height in
     ap (result_map_both parts_of (λ e. e))
     (refused-is c.from_residual-in_err-check_final_poly.result c.in_err-check_final_poly.field-0.0
     c.from_residual-in_err-check_final_poly.ensures.1)
     ∙ sym
-    (final_refuses g.Val.ComplexExtendable.CIRCLE_TWO_ADICITY _ _ p batches
-    (proof_of c.args.proof.now)
-    (p, c.args.claims.now, c.args.proof.now) c.in_err-check_final_poly.field-0.0 _ _
-    first
-    (sym c.validate_parameters.ensures ∙ c.in_ok-validate_parameters.was)
+    (in-turn g.Val.ComplexExtendable.CIRCLE_TWO_ADICITY _ _ c.args.params.now
+    (batch_claims c.args.claims.now) (proof_of c.args.proof.now) _
+    ∙ turned _
+    (passed-value _ _ _ (sym c.validate_claims.ensures ∙ c.in_ok-log_max_height.was)).0
+    ∙ turned _ (sym c.validate_parameters.ensures ∙ c.in_ok-validate_parameters.was)
+    ∙ turned _
     (shape_same _ p fri batches _ high.2 ∙ sym c.validate_proof_shape.ensures
     ∙ c.in_ok-validate_proof_shape.was)
+    ∙ turned _
     (final_same p.log_final_poly_len fri.final_poly _ c.len.ensures ∙ sym c.check_final_poly.ensures
     ∙ c.in_err-check_final_poly.was))
 
@@ -142,21 +145,23 @@ returns-in_err-validate_points g c =
     let p = c.args.params.now in
     let fri = c.args.proof.now.fri_proof in
     let batches = batch_claims c.args.claims.now in
-    let first = sym c.validate_claims.ensures ∙ c.in_ok-log_max_height.was in
     let high = known g (goal.at.returns-in_err-validate_points g c).In_ok-log_max_height in
     ap (result_map_both parts_of (λ e. e))
     (refused-is c.from_residual-in_err-validate_points.result c.in_err-validate_points.field-0.0
     c.from_residual-in_err-validate_points.ensures.1)
     ∙ sym
-    (points_refuse g.Val.ComplexExtendable.CIRCLE_TWO_ADICITY _ _ p batches
-    (proof_of c.args.proof.now)
-    (p, c.args.claims.now, c.args.proof.now) c.in_err-validate_points.field-0.0 _ _
-    first
-    (sym c.validate_parameters.ensures ∙ c.in_ok-validate_parameters.was)
+    (in-turn g.Val.ComplexExtendable.CIRCLE_TWO_ADICITY _ _ c.args.params.now
+    (batch_claims c.args.claims.now) (proof_of c.args.proof.now) _
+    ∙ turned _
+    (passed-value _ _ _ (sym c.validate_claims.ensures ∙ c.in_ok-log_max_height.was)).0
+    ∙ turned _ (sym c.validate_parameters.ensures ∙ c.in_ok-validate_parameters.was)
+    ∙ turned _
     (shape_same _ p fri batches _ high.2 ∙ sym c.validate_proof_shape.ensures
     ∙ c.in_ok-validate_proof_shape.was)
+    ∙ turned _
     (final_same p.log_final_poly_len fri.final_poly _ c.len.ensures ∙ sym c.check_final_poly.ensures
     ∙ c.in_ok-check_final_poly.was)
+    ∙ turned _
     (points_same_tests p _ _ c.args.claims.now ∙ sym c.validate_points.ensures
     ∙ c.in_err-validate_points.was))
 
