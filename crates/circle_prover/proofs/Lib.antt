@@ -1,10 +1,12 @@
 pub mod Answered
 pub mod Asked
+pub mod Begun
 pub mod CommittedHeights
 pub mod Counts
 pub mod FoldedLengths
 pub mod Growing
 pub mod Held
+pub mod KnownRequests
 pub mod Lengths
 pub mod OnDomain
 pub mod OpenedPairs
