@@ -1,13 +1,14 @@
 -- Committed matrices that are opened, as clauses see them. The dictionary of their fields is an
 -- argument of their types.
-use Rattle.std.specs.Prelude.{◌≡◌, ℕ, ◌-◌, ◌^◌, List, length, map}
+use Rattle.std.specs.Prelude.{◌≡◌, ℕ, ◌-◌, ◌^◌, List, length, map, IsNone, Option}
 use Rattle.std.specs.Borrow.{Bor}
 use Rattle.circle_commit.specs.RowMajorMatrix.{rows, width_of}
+use Rattle.circle_commit.specs.declared.matrix.RowMajorMatrix.{RowMajorMatrix}
 use Rattle.circle_domain.specs.declared.lagrange.LagrangeWeights.{LagrangeWeights}
 use Rattle.circle_relation.specs.Accepts.{Fields}
 use Rattle.circle_codewords.specs.Lifts.{combined, read_rows}
 use Rattle.circle_codewords.specs.Lifts as lifts
-use Rattle.circle_codewords.specs.Values.{AreOpened, AreWeightsOf}
+use Rattle.circle_codewords.specs.Values.{AreOpened, AreWeightsOf, CanBeOpened}
 use Rattle.circle_codewords.specs.Words.{Committed, committed_of}
 use Rattle.circle_codewords.specs.Words as words
 use Rattle.circle_codewords.specs.declared.matrix.BatchedMatrices.{BatchedMatrices}
@@ -25,6 +26,11 @@ module _ {F E : Type 0} {over : _} where
 
   abbrev pub fields_of : BatchedMatrices F E over → Fields F E
   fields_of b = over.fields
+
+  -- there is no matrix with points only where it can't be opened at them
+  abbrev pub IsNoneRightly : Option (MatrixAtPoints F E over) → ℕ → RowMajorMatrix F → List E
+      → Type 0
+  IsNoneRightly made h rows points = IsNone made → CanBeOpened over.fields h rows points → ⊥
 
   -- these are the Lagrange polynomials of a matrix's first points at a point, a share for each
   pub record AreWeightsFor (m : MatrixAtPoints F E over) (blowup : ℕ) (t : E)

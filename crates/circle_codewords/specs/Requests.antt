@@ -1,9 +1,11 @@
 -- What an opening is requested of, and what it returns.
 use Rattle.std.specs.Prelude.{◌≡◌, ℕ, ◌+◌, ◌-◌, ◌^◌, ◌<◌, ◌≤◌, List, length, map, zip, flat_map}
-use Rattle.std.specs.Prelude.{All, nat_le, Vec, ◌++◌}
+use Rattle.std.specs.Prelude.{All, nat_le, Vec, ◌++◌, [], ◌∷◌}
+use Rattle.std.specs.Coded.{×_prop, Unit-prop}
 use Rattle.std.specs.List.{AllZip, filter, range_with_len}
 use Rattle.std.specs.declared.alloc.Global.{Global}
 use Rattle.std.proofs.Common.{suc}
+use Rattle.std.proofs.Props.{props}
 use Rattle.circle_commit.specs.Mmcs.{HaveHeightsOfPowers, max_height, opened_rows}
 use Rattle.circle_commit.specs.Pcs.{Openings}
 use Rattle.circle_commit.specs.RowMajorMatrix.{rows, width_of, height_of}
@@ -138,6 +140,18 @@ pub record AreRequests {D F E M : Type 0} (kept : D → List (RowMajorMatrix F))
   pub tall : All (λ r. All (λ m.
       p.log_blowup + p.log_final_poly_len + 2 ≤ log_of (height_of m)) (kept r.prover_data.now))
       requests
+
+AllZip-prop : {A B : Type 0} (R : A → B → Type 0) → ((x : A) (y : B) → IsProp (R x y))
+    → (xs : List A) (ys : List B) → IsProp (AllZip R xs ys)
+AllZip-prop R p [] [] = Unit-prop
+AllZip-prop R p [] (y ∷ ys) = λ a b. absurd a
+AllZip-prop R p (x ∷ xs) [] = λ a b. absurd a
+AllZip-prop R p (x ∷ xs) (y ∷ ys) = ×_prop (p x y) (AllZip-prop R p xs ys)
+
+pub AreRequests-prop : {D F E M : Type 0} (kept : D → List (RowMajorMatrix F)) (k : Fields F E)
+    (two_adicity : ℕ) (p : FriParameters M) (requests : List (OpeningRequest D E))
+    → IsProp (AreRequests kept k two_adicity p requests)
+AreRequests-prop kept k two_adicity p requests = Prim.hlevel (AllZip-prop, props)
 
 -- the heights of a batch: powers of two, of which the greatest is at most 2^top
 pub record AreHeights {F : Type 0} (top : ℕ) (matrices : List (RowMajorMatrix F)) : Type 0 where

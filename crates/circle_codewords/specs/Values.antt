@@ -21,16 +21,24 @@ abbrev pub domain_points : {F : Type 0} → FieldOps F → (ℕ → Coordinates 
     → List (Coordinates F)
 domain_points k gen h = natural_order k gen h (gen (h + 1))
 
-module _ {F E : Type 0} (k : Fields F E) where
+module _ {F E : Type 0} (k : FieldOps F) (gen : ℕ → Coordinates F) (l : FieldOps E) (embed : F → E)
+    (h : ℕ) where
   -- a point, by its coordinate on the projective line, that a standard domain of 2^h points is
   -- clear of
-  abbrev pub IsOffDomain : ℕ → E → Type 0
-  IsOffDomain h t =
-      IsClearOf k.extension k.embed (domain_points k.field k.gen h) (from_line k.extension t)
+  abbrev pub IsOffStandard : E → Type 0
+  IsOffStandard t = IsClearOf l embed (domain_points k gen h) (from_line l t)
 
   -- none of the points is at infinity, and the domain is clear of each
+  abbrev pub AreOffStandard : List E → Type 0
+  AreOffStandard points = All (IsFinite l) points × All IsOffStandard points
+
+module _ {F E : Type 0} (k : Fields F E) where
+  -- the same by the fields
+  abbrev pub IsOffDomain : ℕ → E → Type 0
+  IsOffDomain = IsOffStandard k.field k.gen k.extension k.embed
+
   abbrev pub AreOff : ℕ → List E → Type 0
-  AreOff h points = All (IsFinite k.extension) points × All (IsOffDomain h) points
+  AreOff = AreOffStandard k.field k.gen k.extension k.embed
 
   -- a matrix of 2^h rows can be opened at points: the domain of its rows is clear of them
   pub record CanBeOpened (h : ℕ) (m : RowMajorMatrix F) (points : List E) : Type 0 where

@@ -81,16 +81,16 @@ pub record HaveHeights {E : Type 0} (heights : List ℕ) (layers : List (RowMajo
   pub width : All (λ m. width_of m ≡ 2) layers
   pub height : map height_of layers ≡ map (λ h. 2 ^ (h - 1)) heights
 
-module _ {F E : Type 0} (k : Fields F E) (heights : List ℕ) (folded : ℕ → List E) where
-  -- a codeword with what was folded from the height 2^h, where that is one of the heights
-  abbrev pub joined : ℕ → List E → List E
-  joined h word =
-      if list_any (λ n. n == h) heights then pairwise k.extension.add word (folded h) else word
+-- a codeword with what was folded from the height 2^h, where that is one of the heights
+abbrev pub joined : {E : Type 0} → FieldOps E → List ℕ → (ℕ → List E) → ℕ → List E → List E
+joined l heights folded h word =
+    if list_any (λ n. n == h) heights then pairwise l.add word (folded h) else word
 
-  -- the codeword that follows one of 2^h entries: its fold by x, and what joins there
-  abbrev pub next_word : ℕ → E → List E → List E
-  next_word h beta word =
-      joined h (x_folds k.field k.gen k.extension k.embed (h - 1) beta (pairs_of word))
+-- the codeword that follows one of 2^h entries: its fold by x, and what joins there
+abbrev pub next_word : {F E : Type 0} → Fields F E → List ℕ → (ℕ → List E) → ℕ → E → List E → List E
+next_word k heights folded h beta word =
+    joined k.extension heights folded h
+    (x_folds k.field k.gen k.extension k.embed (h - 1) beta (pairs_of word))
 
 -- the codewords of matrices that are opened
 module _ {F E : Type 0} {over : _} (k : Fields F E) (matrices : List (OpenedMatrix F E over))
@@ -126,8 +126,8 @@ y_folded k = y_folds_at k.field k.gen k.extension k.embed
 
 -- whatever the codewords of the heights are called, the codeword that follows these rows of two of
 -- the height 2^h: their fold by x, and what joins there
-abbrev pub IsNextWord : {F E : Type 0} → Fields F E → List ℕ → List (Vec E Global) → ℕ → E
-    → List (List E) → List E → Type 0
-IsNextWord k heights folded h beta layer word =
+abbrev pub IsNextWord : {F E : Type 0} → FieldOps F → (ℕ → Coordinates F) → FieldOps E → (F → E)
+    → List ℕ → List (Vec E Global) → ℕ → E → List (List E) → List E → Type 0
+IsNextWord k gen l embed heights folded h beta layer word =
     (f : ℕ → List _) → map (λ w. w.items) folded ≡ map f heights →
-    word ≡ joined k heights f h (x_folds k.field k.gen k.extension k.embed (h - 1) beta layer)
+    word ≡ joined l heights f h (x_folds k gen l embed (h - 1) beta layer)

@@ -8,7 +8,6 @@ ghost use Rattle.circle_commit.specs.RowMajorMatrix.{width_of};
 ghost use Rattle.circle_folding.specs.Quotient.{ArePowers};
 ghost use Rattle.circle_codewords.specs.Values.{AreWeightsOf, AreWeightsOf-prop, CanBeOpened};
 
-use crate::values::are_off_domain;
 use circle_commit::{Matrix, RowMajorMatrix};
 use circle_domain::LagrangeWeights;
 use circle_field::{ComplexExtendable, ExtensionField, Field};
@@ -91,33 +90,6 @@ fn have_width<EF: Copy>(values: &[Vec<EF>], width: usize) -> bool
 }
 
 impl<'a, F: ComplexExtendable, EF: ExtensionField<F>> MatrixAtPoints<'a, F, EF> {
-    /// The matrix with the points, where it can be opened at them: it has `2^log_height` rows, with
-    /// `1 <= log_height < CIRCLE_TWO_ADICITY`, and the domain of its rows is clear of each. Takes no
-    /// memory.
-    pub fn new(
-        log_height: usize,
-        rows: &'a RowMajorMatrix<F>,
-        points: &'a [EF],
-    ) -> Option<MatrixAtPoints<'a, F, EF>>
-        ensures some { IfSome result (λ m. (m.log_height ≡ log_height) × (m.rows.now ≡ rows.now)
-            × (m.points.now ≡ points.now)) }
-        ensures none { IsNone result →
-            CanBeOpened ⟦<EF as OverCircle<F>>⟧.fields log_height rows.now points.now → ⊥ }
-    {
-        if log_height >= 1
-            && log_height < F::CIRCLE_TWO_ADICITY
-            && rows.height() == 1 << log_height
-            && are_off_domain::<F, EF>(log_height, points)
-        {
-            return Some(MatrixAtPoints {
-                log_height,
-                rows,
-                points,
-            });
-        }
-        None
-    }
-
     /// The matrix with these values, where they are a value of each column for each of its points.
     /// Takes no memory.
     pub fn with_values(self, values: &'a [Vec<EF>]) -> Option<OpenedMatrix<'a, F, EF>>

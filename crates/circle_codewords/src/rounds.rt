@@ -9,7 +9,6 @@ ghost use Rattle.circle_codewords.specs.Words.{IsNextWord};
 use circle_commit::RowMajorMatrix;
 use circle_field::{ComplexExtendable, ExtensionField};
 use circle_folding::{add_each, fold_x};
-use circle_relation::OverCircle;
 use std::alloc::{AllocError, Global};
 
 // Which of the heights this is, the first where several are.
@@ -45,7 +44,7 @@ pub fn fold_round<F: ComplexExtendable, EF: ExtensionField<F>>(
     requires rows { height_of layer.now ≡ 2 ^ (log_height - 1) }
     requires words { map (λ w. length w.items) folded.now ≡ map (λ h. 2 ^ (h - 1)) heights.now }
     ensures length { IfOk result (λ word. length word.items ≡ 2 ^ (log_height - 1)) }
-    ensures folds { let k = ⟦<EF as OverCircle<F>>⟧.fields in IfOk result (λ word. IsNextWord k
+    ensures folds { IfOk result (λ word. IsNextWord F.ops F.generators EF.ops EF.embed
         heights.now folded.now log_height beta (rows layer.now) word.items) }
 {
     let mut word = fold_x::<F, EF, RowMajorMatrix<EF>>(alloc, beta, 1, layer)?;

@@ -13,16 +13,16 @@ ghost use Rattle.circle_domain.specs.Domain.{log_size, shift_of};
 ghost use Rattle.circle_domain.specs.Selectors.{IsFinite};
 ghost use Rattle.circle_folding.specs.Queries.{IsApart};
 ghost use Rattle.circle_point.specs.Projective.{from_line};
-ghost use Rattle.circle_codewords.specs.OfMatrices.{AreValuesAt, AreWeightsFor, IsFor};
+ghost use Rattle.circle_codewords.specs.OfMatrices.{AreValuesAt, AreWeightsFor, IsFor, IsNoneRightly};
 ghost use Rattle.circle_codewords.specs.Ratios.{points_of_height};
-ghost use Rattle.circle_codewords.specs.Values.{AreOff, domain_points};
+ghost use Rattle.circle_codewords.specs.Values.{AreOffStandard, domain_points};
 
 use crate::matrix::{MatrixAtPoints, PointWeights};
+use circle_commit::{Matrix, RowMajorMatrix};
 use circle_domain::{CircleDomain, LagrangeWeights, lagrange_weights};
 use circle_field::{ComplexExtendable, ExtensionField};
 use circle_plane::CircleEvaluations;
 use circle_point::Point;
-use circle_relation::OverCircle;
 use std::alloc::{AllocError, Global};
 use std::marker::PhantomData;
 
@@ -50,8 +50,9 @@ pub fn are_off_domain<F: ComplexExtendable, EF: ExtensionField<F>>(
     requires positive { 1 ≤ log_height }
     requires in_group { log_height < F.CIRCLE_TWO_ADICITY }
     ensures yes { IsTrue result →
-        AreOff ⟦<EF as OverCircle<F>>⟧.fields log_height points.now }
-    ensures no { AreOff ⟦<EF as OverCircle<F>>⟧.fields log_height points.now → IsTrue result }
+        AreOffStandard F.ops F.generators EF.ops EF.embed log_height points.now }
+    ensures no { AreOffStandard F.ops F.generators EF.ops EF.embed log_height points.now →
+        IsTrue result }
     ensures apart { IsTrue result → All (λ t. IsApart EF.embed
         (points_of_height F.ops F.generators log_height) (from_line EF.ops t)) points.now }
 {
@@ -61,6 +62,34 @@ pub fn are_off_domain<F: ComplexExtendable, EF: ExtensionField<F>>(
         }
     }
     true
+}
+
+impl<'a, F: ComplexExtendable, EF: ExtensionField<F>> MatrixAtPoints<'a, F, EF> {
+    /// The matrix with the points, where it can be opened at them: it has `2^log_height` rows, with
+    /// `1 <= log_height < CIRCLE_TWO_ADICITY`, and the domain of its rows is clear of each. Takes no
+    /// memory.
+    pub fn new(
+        log_height: usize,
+        rows: &'a RowMajorMatrix<F>,
+        points: &'a [EF],
+    ) -> Option<MatrixAtPoints<'a, F, EF>>
+        ensures some { IfSome result (λ m. (m.log_height ≡ log_height) × (m.rows.now ≡ rows.now)
+            × (m.points.now ≡ points.now)) }
+        ensures none { IsNoneRightly result log_height rows.now points.now }
+    {
+        if log_height >= 1
+            && log_height < F::CIRCLE_TWO_ADICITY
+            && rows.height() == 1 << log_height
+            && are_off_domain::<F, EF>(log_height, points)
+        {
+            return Some(MatrixAtPoints {
+                log_height,
+                rows,
+                points,
+            });
+        }
+        None
+    }
 }
 
 // The domain of the first points of that of a height.

@@ -8,7 +8,7 @@ use Rattle.circle_commit.specs.declared.params.FriParameters.{FriParameters}
 use Rattle.circle_commit.specs.declared.pcs.OpeningRequest.{OpeningRequest}
 use Rattle.circle_prover.specs.Opening.{IsOpening}
 use Rattle.circle_codewords.specs.Requests.{AreAnswers}
-use Rattle.circle_prover.specs.Schemes.{Schemes}
+use Rattle.circle_prover.specs.declared.openable.OpenableRequests.{OpenableRequests}
 use Rattle.circle_relation.specs.Accepts.{AcceptsFrom, Authenticates, Fields}
 use Rattle.circle_relation.specs.Statement.{BatchClaim, OpeningProof, all_matrices}
 use Rattle.circle_completeness.specs.Claimed.{AreClaimed}
@@ -33,10 +33,12 @@ module _ {C S F E M IC IP WC WP : Type 0} (k : Fields F E) (r : RunMoves C S F E
       → All (λ m. 1 ≤ length m.claims) (all_matrices batches)
       → AcceptsFrom k p r authenticates word_authenticates batches proof old new
 
--- the same by the fields, the challenger and the schemes
-abbrev pub AcceptsOpeningsBy : {C S F E I IC ID IP W WC WD WP : Type 0}
-    → Schemes C S F E I IC ID IP W WC WD WP → I → FriParameters W →
-    List (OpeningRequest ID E) → Type 0
-AcceptsOpeningsBy o mmcs p requests =
-    AcceptsOpenings o.fields o.run p (o.authenticates mmcs)
-    (o.word_authenticates p.mmcs) o.kept (o.Commits mmcs) (o.WordCommits p.mmcs) requests
+-- the same of requests that can be opened
+abbrev pub AcceptsOpeningsOf : {F E I W IC ID IP IE WC WD WP WE C S : Type 0}
+    {over inputs ic ip ie words wc wp we : _}
+    → OpenableRequests F E I W IC ID IP IE WC WD WP WE over inputs ic ip ie words wc wp we
+    → RunMoves C S F E WC → Type 0
+AcceptsOpeningsOf {over = over} {inputs = inputs} {words = words} o r =
+    let p = o.params.now in
+    AcceptsOpenings over.fields r p (inputs.authenticates o.mmcs.now) (words.authenticates p.mmcs)
+    inputs.matrices (inputs.commits o.mmcs.now) (words.commits p.mmcs) o.requests.now

@@ -12,7 +12,7 @@ use Rattle.circle_domain.specs.Spans.{XSpan}
 use Rattle.circle_domain.specs.Values.{values_at}
 use Rattle.circle_prover.specs.Opening.{IsFailure, answered_matrices}
 use Rattle.circle_codewords.specs.Requests.{AreAnswers, log_of}
-use Rattle.circle_prover.specs.Schemes.{Schemes}
+use Rattle.circle_prover.specs.declared.openable.OpenableRequests.{OpenableRequests}
 use Rattle.circle_prover.specs.Words.{last_word}
 use Rattle.circle_relation.specs.declared.error.ProverError.{ProverError}
 use Rattle.circle_relation.specs.declared.error.ProverError.TheVariants.{LastWordNotConstant}
@@ -64,9 +64,14 @@ module _ {D F E M : Type 0} (kept : D → List (RowMajorMatrix F)) (k : Fields F
       AreOfLowDegree → (s : _) (e : ProverError) → IsFailure k r p Commits kept requests s e
       → e ≢ LastWordNotConstant
 
--- the same by the fields, the challenger and the schemes
-abbrev pub IsNeverTooHighBy : {C S F E I IC ID IP W WC WD WP : Type 0}
-    → Schemes C S F E I IC ID IP W WC WD WP → FriParameters W → List (OpeningRequest ID E)
-    → Type 0
-IsNeverTooHighBy o p requests =
-    IsNeverTooHigh o.kept o.fields p requests o.run (o.WordCommits p.mmcs)
+-- the same of requests that can be opened
+module _ {F E I W IC ID IP IE WC WD WP WE : Type 0} {over inputs ic ip ie words wc wp we : _}
+    (o : OpenableRequests F E I W IC ID IP IE WC WD WP WE over inputs ic ip ie words wc wp we)
+  where
+    abbrev pub EndLow : Type 0
+    EndLow = EndsLow inputs.matrices over.fields o.params.now o.requests.now
+
+    abbrev pub AreNeverTooHigh : {C S : Type 0} → RunMoves C S F E WC → Type 0
+    AreNeverTooHigh r =
+        IsNeverTooHigh inputs.matrices over.fields o.params.now o.requests.now r
+        (words.commits o.params.now.mmcs)

@@ -49,3 +49,20 @@ module _ {F E : Type 0} (k : Fields F E) (two_adicity blowup : ℕ) (matrices : 
         → blowup + final < top_of matrices
         → XSpan k.field k.gen k.extension k.embed final (blowup + final)
         (last_word k blowup matrices alpha final bivariate betas)
+
+module _ {F E : Type 0} (k : Fields F E) (blowup : ℕ) (alpha : E) where
+  -- so are the codewords of the heights of whatever matrices
+  pub record AreHeightWordsLow : Type 0 where
+    pub split : (matrices : List (Committed F E)) → ReducedWordsSplit k k.two_adicity blowup matrices
+        alpha
+    pub corrected : (matrices : List (Committed F E)) → CorrectedWordsAreLow k k.two_adicity blowup
+        matrices alpha
+
+  -- and those that follow under these challenges
+  pub record IsLastWordLow (final : ℕ) (bivariate : E) (betas : List E) : Type 0 where
+    pub folds : (matrices : List (Committed F E)) → FirstFoldsAreLow k k.two_adicity blowup matrices
+        alpha bivariate
+    pub rounds : (matrices : List (Committed F E)) → RoundWordsAreLow k k.two_adicity blowup matrices
+        alpha bivariate betas
+    pub last : (matrices : List (Committed F E)) → LastWordIsLow k k.two_adicity blowup matrices final
+        alpha bivariate betas

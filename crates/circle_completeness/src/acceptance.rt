@@ -1,14 +1,11 @@
 //! The law of openings that are accepted. The call of this module returns nothing and carries what
 //! its contract says.
-ghost use Rattle.std.specs.Prelude.{◌≡◌};
-ghost use Rattle.circle_completeness.specs.Accepted.{AcceptsOpeningsBy};
-ghost use Rattle.circle_codewords.specs.Requests.{AreFit, AreRequests};
+ghost use Rattle.circle_completeness.specs.Accepted.{AcceptsOpeningsOf};
 
-use circle_challenger::{CanObserve, CanSample, GrindingChallenger};
-use circle_commit::{FriParameters, Mmcs, OpeningRequest};
+use circle_challenger::{CanObserve, CanSample, GrindingChallenger, RunChallenger};
+use circle_commit::Mmcs;
 use circle_field::{ComplexExtendable, ExtensionField};
-use circle_prover::OpeningOver;
-use circle_relation::OverCircle;
+use circle_prover::OpenableRequests;
 
 /// Whatever an opening returns for the requests is accepted (Circle STARKs, IACR ePrint 2024/278,
 /// sections 4 to 6): where what is claimed is what was returned, of each matrix at one point at
@@ -20,7 +17,7 @@ use circle_relation::OverCircle;
 /// A wide one of high degree is opened at the queries by its own rows, but its codewords are those
 /// of the extension of its first rows: what is returned for it may be refused.
 ///
-/// Requires what an opening requires, and folding by two. Takes no memory.
+/// Takes no memory.
 pub fn openings_are_accepted<
     Val: ComplexExtendable,
     EF: ExtensionField<Val>,
@@ -28,22 +25,14 @@ pub fn openings_are_accepted<
     FriMmcs: Mmcs<EF>,
     C,
 >(
-    mmcs: &InputMmcs,
-    params: &FriParameters<FriMmcs>,
-    requests: &[OpeningRequest<InputMmcs::ProverData, EF>],
+    requests: &OpenableRequests<Val, EF, InputMmcs, FriMmcs>,
     challenger: &C,
 )
 where
     C: CanSample<Val> + GrindingChallenger<Val> + CanObserve<FriMmcs::Commitment>,
-    requires parameters { AreFit params.now }
-    requires arity { params.now.max_log_arity ≡ 1 }
-    requires requests { AreRequests InputMmcs.matrices ⟦<EF as OverCircle<Val>>⟧.fields
-        Val.CIRCLE_TWO_ADICITY params.now requests.now }
-    ensures { AcceptsOpeningsBy ⟦<C as OpeningOver<Val, EF, InputMmcs, FriMmcs>>⟧.schemes
-        mmcs.now params.now requests.now }
+    ensures { AcceptsOpeningsOf requests.now
+        ⟦<C as RunChallenger<Val, EF, FriMmcs::Commitment>>⟧.run }
 {
-    let _mmcs = mmcs;
-    let _params = params;
     let _requests = requests;
     let _challenger = challenger;
 }

@@ -7,13 +7,13 @@
 //!
 //! - Where all claims on some committed matrices are true (`IsTrue`), the codeword of each height
 //!   is the values of a polynomial with few coefficients plus a multiple of the vanishing
-//!   polynomial, and without its lambda those values (`height_words_are_low`: `split`,
-//!   `corrected`).
+//!   polynomial, and without its lambda those values (`height_words_are_low`, by
+//!   `AreHeightWordsLow`).
 //! - Its fold by y, and the codewords of the rounds with the heights that join, are the values of
-//!   polynomials in x, each with half as many coefficients as the one before (`last_word_is_low`:
-//!   `folds`, `rounds`), so the last codeword is the values of a final polynomial (`last`).
+//!   polynomials in x, each with half as many coefficients as the one before, so the last codeword
+//!   is the values of a final polynomial (`last_word_is_low`, by `IsLastWordLow`).
 //! - What an opening returns for matrices of low degree is true, so that holds of its last codeword
-//!   (`honest_openings_end_low`, by `EndsLow`).
+//!   (`honest_openings_end_low`, by `EndLow`).
 //!
 //! And why what an opening returns is accepted: where claims say what was returned for requests, of
 //! each matrix at one point at least, under commitments of its matrices, the relation that a

@@ -1,9 +1,11 @@
 pub mod Answered
 pub mod Asked
+pub mod Begun
 pub mod CommittedHeights
 pub mod FoldedLengths
 pub mod Growing
 pub mod Held
+pub mod KnownRequests
 pub mod Lengths
 pub mod OnDomain
 pub mod OpenedPairs

@@ -247,19 +247,13 @@ words-alike k blowup ms alpha bivariate hs high first some positive fewer same i
     ∙ word-alike k (lower ms) top fold (top - 1) (fold top) betas low n
     ∙ ap (λ v. word_at k v fold (top - 1) (fold top) betas n) (sym (heights-end ms some))
 
--- what is folded from the first layer's codewords, the tallest apart
-pub folds-split : {F E : Type 0} (k : Fields F E) (blowup : ℕ) (ms : List (Committed F E))
-    (alpha bivariate : E) (hs : List ℕ) (layers : List (RowMajorMatrix E)) (joining : List (List E))
-    (tallest : List E) → 1 ≤ length ms
+-- what is folded from the first layer's codewords
+pub folds-are : {F E : Type 0} (k : Fields F E) (blowup : ℕ) (ms : List (Committed F E))
+    (alpha bivariate : E) (hs : List ℕ) (layers : List (RowMajorMatrix E)) (folds : List (List E))
     → hs ≡ heights_of ms → map rows layers ≡ map (layer_of k blowup ms alpha) (heights_of ms) →
-    joining ++ tallest ∷ [] ≡ folded_layers k bivariate hs layers
-    → (joining ≡ map (first_fold k blowup ms alpha bivariate) (lower ms))
-    × (tallest ≡ first_fold k blowup ms alpha bivariate (top_of ms))
-folds-split k blowup ms alpha bivariate hs layers joining tallest some same are folds =
-    let layer = layer_of k blowup ms alpha in
-    let fold = first_fold k blowup ms alpha bivariate in
-    split-last fold joining tallest (lower ms) (top_of ms)
-    (folds ∙ ap (λ v. folded_layers k bivariate v layers) same
+    folds ≡ folded_layers k bivariate hs layers
+    → folds ≡ map (first_fold k blowup ms alpha bivariate) (heights_of ms)
+folds-are k blowup ms alpha bivariate hs layers folds same are folded =
+    folded ∙ ap (λ v. folded_layers k bivariate v layers) same
     ∙ ap (pairwise (y_folded k bivariate) (heights_of ms)) are
-    ∙ pairwise-map (y_folded k bivariate) layer (heights_of ms)
-    ∙ ap (map fold) (heights-end ms some))
+    ∙ pairwise-map (y_folded k bivariate) (layer_of k blowup ms alpha) (heights_of ms)

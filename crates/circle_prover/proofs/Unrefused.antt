@@ -1,7 +1,7 @@
 -- What requests to open meet where none of the tests has reason to refuse them.
 use Rattle.std.specs.Prelude.{◌≡◌, ◌↔◌, ℕ, ◌+◌, ◌^◌, ◌<◌, ◌≤◌, ◌==◌, Bool, true, false, not, ◌||◌}
 use Rattle.std.specs.Prelude.{List, [], ◌∷◌, ◌++◌, length, map, flat_map, zip, All, Ok, Err, Vec}
-use Rattle.std.specs.Prelude.{vec_len, nat_lt, slice_index_or}
+use Rattle.std.specs.Prelude.{vec_len, nat_lt, slice_index_or, Result, IsErrAnd, MatchResult}
 use Rattle.std.specs.List.{AllZip, list_any}
 use Rattle.std.specs.declared.alloc.Global.{Global}
 use Rattle.std.proofs.Common.{suc, refl, sym, ◌∙◌, ap, arith}
@@ -63,6 +63,13 @@ places f R (x ∷ xs) (y ∷ ys) same each = (
   places f R xs ys (omega (arith, same))
       (λ i a b lt lt'. each (suc i) a b (omega (arith, lt)) (omega (arith, lt'))),
 )
+
+-- a refusal that is handed on is that of tests
+pub refusal-is : {A E : Type 0} (r : Result A E) (e : E) (tested : Result (Unit {0}) E)
+    → IsErrAnd r (λ x. x ≡ e) → tested ≡ Err e →
+    MatchResult r (λ a. tested ≡ Ok (tt {0})) (λ x. tested ≡ Err x)
+refusal-is (Ok a) e tested same is = elim same [ ]
+refusal-is (Err x) e tested same is = is ∙ ap Err (sym same)
 
 -- parameters that are not refused
 pub fit-parameters : {M : Type 0} (p : FriParameters M) → is_unfit p ≡ false → AreFit p

@@ -4,3 +4,5 @@ pub mod Failure
 pub mod Schemes
 pub mod Requesting
 pub mod OfFoldable
+pub mod OfRequests
+pub mod Folding

@@ -59,23 +59,39 @@ is_infinite same l request =
 abbrev pub IsAtPoints : {D E : Type 0} → FieldOps E → OpeningRequest D E → Type 0
 IsAtPoints l request = All (λ v. All (IsFinite l) v.items) request.points.items
 
-module _ {F E : Type 0} (k : Fields F E) (same : E → E → Bool) where
+module _ {F E : Type 0} (k : FieldOps F) (gen : ℕ → Coordinates F) (l : FieldOps E) (embed : F → E)
+    (same : E → E → Bool) where
   -- whether a coordinate of the projective line is that of a point
-  abbrev pub is_at : E → Coordinates F → Bool
-  is_at t x =
-      let z = from_line k.extension t in
-      same (k.embed x.x) z.x && same (k.embed x.y) z.y
+  abbrev pub is_that_of : E → Coordinates F → Bool
+  is_that_of t x = let z = from_line l t in same (embed x.x) z.x && same (embed x.y) z.y
 
   -- whether one of the coordinates is that of a point of the domain that a matrix is committed on
-  abbrev pub some_on_domain : RowMajorMatrix F → List E → Bool
-  some_on_domain m points =
-      let domain = points_of_height k.field k.gen (log_of (height_of m)) in
-      list_any (λ t. list_any (is_at t) domain) points
+  abbrev pub some_on_standard : RowMajorMatrix F → List E → Bool
+  some_on_standard m points =
+      let domain = points_of_height k gen (log_of (height_of m)) in
+      list_any (λ t. list_any (is_that_of t) domain) points
 
   -- whether some matrix of a batch is to be opened at a point of the domain that it is committed on
+  abbrev pub meets_standard : List (RowMajorMatrix F) → List (Vec E Global) → Bool
+  meets_standard matrices points =
+      list_any (λ asked. some_on_standard asked.0 asked.1.items) (zip matrices points)
+
+  -- so of requests; kept of what a committer keeps are the matrices
+  abbrev pub meets_standards : {D : Type 0} → (D → List (RowMajorMatrix F))
+      → List (OpeningRequest D E) → Bool
+  meets_standards kept requests =
+      list_any (λ r. meets_standard (kept r.prover_data.now) r.points.items) requests
+
+-- the same by the fields
+module _ {F E : Type 0} (k : Fields F E) (same : E → E → Bool) where
+  abbrev pub is_at : E → Coordinates F → Bool
+  is_at = is_that_of k.field k.gen k.extension k.embed same
+
+  abbrev pub some_on_domain : RowMajorMatrix F → List E → Bool
+  some_on_domain = some_on_standard k.field k.gen k.extension k.embed same
+
   abbrev pub meets_domain : List (RowMajorMatrix F) → List (Vec E Global) → Bool
-  meets_domain matrices points =
-      list_any (λ asked. some_on_domain asked.0 asked.1.items) (zip matrices points)
+  meets_domain = meets_standard k.field k.gen k.extension k.embed same
 
 -- kept of what a committer keeps are the matrices
 module _ {D F E : Type 0} (kept : D → List (RowMajorMatrix F))
@@ -93,7 +109,7 @@ module _ {D F E : Type 0} (kept : D → List (RowMajorMatrix F))
   -- whether some matrix is to be opened at a point of the domain that it is committed on
   abbrev pub meets_domains : Fields F E → (E → E → Bool) → Bool
   meets_domains k same =
-      list_any (λ r. meets_domain k same (kept r.prover_data.now) r.points.items) requests
+      meets_standards k.field k.gen k.extension k.embed same kept requests
 
   -- the parameters; the numbers of matrices and of lists of points; the heights, matrix by matrix;
   -- the points

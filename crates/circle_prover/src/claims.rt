@@ -2,7 +2,6 @@
 //! them.
 ghost use Rattle.std.specs.Prelude.{ℕ, ◌≡◌, ◌++◌, All, IfOk, OnOk};
 ghost use Rattle.std.specs.Prelude.{length, map, flat_map};
-ghost use Rattle.std.specs.List.{AllZip};
 ghost use Rattle.circle_commit.specs.Mmcs.{opened_rows};
 ghost use Rattle.circle_commit.specs.Pcs.{openings};
 ghost use Rattle.circle_commit.specs.DotProduct.{pairwise};
@@ -11,73 +10,73 @@ ghost use Rattle.circle_transcript.specs.Claims.{claims_of};
 ghost use Rattle.circle_transcript.specs.ShapeOf.{batches_of, matrices_of};
 ghost use Rattle.circle_relation.specs.Accepts.{Fields};
 ghost use Rattle.circle_codewords.specs.Words.{claim_of, committed_of};
-ghost use Rattle.circle_codewords.specs.Requests.{AreAnswers, IsFit, IsOpenable};
-ghost use Rattle.circle_codewords.specs.Requests.{AddsBatch, AreAllRequested, AreBatchValues};
-ghost use Rattle.circle_codewords.specs.Requests.{lists_of};
+ghost use Rattle.circle_codewords.specs.Requests.{AddsBatch, lists_of};
+ghost use Rattle.circle_prover.specs.OfRequests.{AreAnsweredBy, AreMatricesWith, AreOpenableAt};
+ghost use Rattle.circle_prover.specs.OfRequests.{AreValuesAt, fields_of};
 ghost use Rattle.circle_relation.specs.Taken.{point_taken};
 
+use crate::openable::OpenableRequests;
 use circle_codewords::OpenedMatrix;
 use circle_commit::{
-    Matrix, Mmcs, OpenedValuesForMatrix, OpenedValuesForRound, OpeningRequest, RowMajorMatrix,
-    log2_strict,
+    Matrix, Mmcs, OpenedValuesForMatrix, OpenedValuesForRound, RowMajorMatrix, log2_strict,
 };
 use circle_field::{ComplexExtendable, ExtensionField, Field};
 use circle_point::Point;
-use circle_relation::OverCircle;
 use circle_transcript::OpeningClaim;
 use std::alloc::{AllocError, Global};
 
-// Adds the matrices of a batch.
-fn push_matrices<'a, F: ComplexExtendable, EF: ExtensionField<F>>(
-    list: &mut Vec<OpenedMatrix<'a, F, EF>>,
-    log_blowup: usize,
-    matrices: &'a [RowMajorMatrix<F>],
-    points: &'a [Vec<EF>],
-    values: &'a [OpenedValuesForMatrix<EF>],
-) -> Result<(), AllocError>
-    requires fit { AllZip (IsOpenable ⟦<EF as OverCircle<F>>⟧.fields F.CIRCLE_TWO_ADICITY
-        log_blowup) matrices.now (lists_of points.now) }
-    requires count { length values.now ≡ length points.now }
-    requires values { AreBatchValues ⟦<EF as OverCircle<F>>⟧.fields log_blowup matrices.now
-        (lists_of points.now) (opened_rows values.now) }
-    ensures { OnOk result (AddsBatch ⟦<EF as OverCircle<F>>⟧.fields log_blowup matrices.now
-        points.now values.now list.old.items list.new.items) }
-{
-    for (matrix, (points, values)) in matrices.iter().zip(points.iter().zip(values)) {
-        list.push(OpenedMatrix {
-            log_height: log2_strict(matrix.height()),
-            rows: matrix,
-            points,
-            values,
-        })?;
+impl<
+    'a,
+    Val: ComplexExtendable,
+    EF: ExtensionField<Val>,
+    InputMmcs: Mmcs<Val>,
+    FriMmcs: Mmcs<EF>,
+> OpenableRequests<'a, Val, EF, InputMmcs, FriMmcs> {
+    // Adds the matrices of a batch.
+    fn push_matrices(
+        &self,
+        list: &mut Vec<OpenedMatrix<'a, Val, EF>>,
+        matrices: &'a [RowMajorMatrix<Val>],
+        points: &'a [Vec<EF>],
+        values: &'a [OpenedValuesForMatrix<EF>],
+    ) -> Result<(), AllocError>
+        requires fit { AreOpenableAt self.now matrices.now (lists_of points.now) }
+        requires count { length values.now ≡ length points.now }
+        requires values { AreValuesAt self.now matrices.now (lists_of points.now)
+            (opened_rows values.now) }
+        ensures { OnOk result (AddsBatch (fields_of self.now) self.now.params.now.log_blowup
+            matrices.now points.now values.now list.old.items list.new.items) }
+    {
+        for (matrix, (points, values)) in matrices.iter().zip(points.iter().zip(values)) {
+            list.push(OpenedMatrix {
+                log_height: log2_strict(matrix.height()),
+                rows: matrix,
+                points,
+                values,
+            })?;
+        }
+        Ok(())
     }
-    Ok(())
-}
 
-/// All requested matrices with their values, one after another.
-///
-/// Requires requests that can be opened, and the values that are returned. Fails where memory is
-/// refused.
-pub(crate) fn opened_matrices<'a, F: ComplexExtendable, EF: ExtensionField<F>, M: Mmcs<F>>(
-    alloc: Global,
-    mmcs: &M,
-    log_blowup: usize,
-    requests: &'a [OpeningRequest<'a, M::ProverData, EF>],
-    values: &'a [OpenedValuesForRound<EF>],
-) -> Result<Vec<OpenedMatrix<'a, F, EF>>, AllocError>
-    requires fit { All (IsFit M.matrices ⟦<EF as OverCircle<F>>⟧.fields log_blowup
-        F.CIRCLE_TWO_ADICITY) requests.now }
-    requires values { AllZip (AreAnswers M.matrices ⟦<EF as OverCircle<F>>⟧.fields log_blowup)
-        requests.now (openings values.now) }
-    ensures { IfOk result (λ v. AreAllRequested M.matrices ⟦<EF as OverCircle<F>>⟧.fields
-        log_blowup requests.now (openings values.now) v.items) }
-{
-    let mut list = Vec::new(alloc);
-    for (request, values) in requests.iter().zip(values) {
-        let matrices = mmcs.get_matrices(request.prover_data);
-        push_matrices(&mut list, log_blowup, matrices, &request.points, values)?;
+    /// All requested matrices with their values, one after another.
+    ///
+    /// Requires the values that are returned. Fails where memory is refused.
+    pub(crate) fn opened_matrices(
+        &self,
+        alloc: Global,
+        values: &'a [OpenedValuesForRound<EF>],
+    ) -> Result<Vec<OpenedMatrix<'a, Val, EF>>, AllocError>
+        requires { AreAnsweredBy self.now (openings values.now) }
+        ensures { IfOk result (λ v.
+            AreMatricesWith self.now (openings values.now) v.items) }
+    {
+        let mut list = Vec::new(alloc);
+        for (request, values) in self.requests.iter().zip(values) {
+            let matrices = self.mmcs.get_matrices(request.prover_data);
+            self.push_matrices(&mut list, matrices, &request.points, values)?;
+        }
+        Ok(list)
     }
-    Ok(list)
 }
 
 // Adds the claims on a matrix.

@@ -34,6 +34,21 @@ pub(crate) struct FirstLayer<EF, Com, Data> {
     pub kept: Data,
 }
 
+/// The first layer of an opening with its challenges, and what its codewords fold into.
+#[derive(Drop)]
+pub(crate) struct FoldedLayer<F, EF, Com, Data> {
+    /// The challenge that batches the claims.
+    pub alpha: EF,
+    /// The witness of the proof of work before it, 0 where that has no difficulty.
+    pub witness: F,
+    /// The layer.
+    pub layer: FirstLayer<EF, Com, Data>,
+    /// The challenge that folds it.
+    pub bivariate: EF,
+    /// What the codewords fold into that join the rounds, all but that of the greatest height.
+    pub joining: Vec<Vec<EF>>,
+}
+
 impl<F: ComplexExtendable, EF: ExtensionField<F>, M: Mmcs<EF>> FoldableMatrices<'_, F, EF, M> {
     /// Makes the codewords of all heights, and commits to them by pairs.
     ///

@@ -24,18 +24,20 @@
 //!                   2 entries                              the values of the final polynomial
 //! ```
 //!
-//! Before the challenger is seeded, `validate_requests` refuses requests by tests in order: it
-//! returns the first refusal that there is reason for, and allocates nothing.
+//! `OpenableRequests` carry that they can be opened. Before the challenger is seeded,
+//! `OpenableRequests::new` refuses others by tests in order: it returns the first refusal that
+//! there is reason for, and allocates nothing. `OpenableRequests::open` requires nothing.
 //!
-//! - In `src/`, `requests` tests what is requested. `prove` has the whole opening: `values` for the
-//!   values, `claims` and `heights` for what is requested, `run` for the run of the transcript,
-//!   with `first_layer` and `rounds` in it, and `openings` for the rows and siblings at the
-//!   queries. `foldable` has the matrices of the run as a value, which carries that each leaves
-//!   something to fold. `schemes` is what contracts see of the fields, the challenger and the
-//!   schemes.
+//! - In `src/`, `openable` has these requests, `requests` the tests. `prove` has the whole opening:
+//!   `values` for the values, `claims` and `heights` for what is requested, `run` for the run of
+//!   the transcript, with `first_layer` and `rounds` in it, and `openings` for the rows and
+//!   siblings at the queries. `foldable` has the matrices of the run as a value, which carries that
+//!   each leaves something to fold. `schemes` is what contracts see of the fields, the challenger
+//!   and the schemes.
 //! - In `specs/`, `Requesting`: the tests of requests, in order. `Opening` says what is returned,
 //!   by `Words`, the codewords under the challenges and what is committed to; `Failure` why a run
-//!   fails, `Schemes` the whole by the schemes. `OfFoldable`: the same over the value of a run.
+//!   fails. `OfRequests`, `OfFoldable`: the same over requests that can be opened, and over the
+//!   value of a run. `Schemes`: the schemes by themselves.
 //! - In `proofs/`, `CommittedHeights`, `OnDomain`, `RequestLists` and `Unrefused` are of the tests,
 //!   `Growing`, `Lengths` and `FoldedLengths` of codewords, `Tops`, `Seen` and `TallMatrices` of
 //!   heights, `Stuck` of the transcript, `Asked`, `Answered` and `Requested` of requested matrices
@@ -47,6 +49,7 @@ mod claims;
 mod first_layer;
 mod foldable;
 pub mod heights;
+pub mod openable;
 mod openings;
 pub mod prove;
 pub mod requests;
@@ -57,7 +60,6 @@ mod values;
 
 pub use circle_relation::ProverError;
 pub use heights::{log_min_trace_height, validate_height, validate_heights};
-pub use prove::open_requests;
-pub use requests::validate_requests;
+pub use openable::OpenableRequests;
 pub use run::CommittedWords;
 pub use schemes::OpeningOver;

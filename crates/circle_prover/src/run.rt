@@ -1,21 +1,23 @@
 //! The run of an opening, from its batching challenge to its query indices.
-ghost use Rattle.std.specs.Prelude.{◌≡◌, ◌≤◌, ◌<◌, ◌-◌, ◌+◌, ◌^◌, [], All, Ok};
+ghost use Rattle.std.specs.Prelude.{◌≡◌, ◌≤◌, ◌<◌, ◌-◌, ◌+◌, ◌^◌, [], All, Ok, length};
 ghost use Rattle.std.specs.Prelude.{IfOk, IfErr, OnOk};
 ghost use Rattle.circle_transcript.specs.Claims.{claims_of};
 ghost use Rattle.circle_transcript.specs.Draw.{widths_of};
-ghost use Rattle.circle_transcript.specs.Numbers.{numbers_of, run_steps};
+ghost use Rattle.circle_transcript.specs.Numbers.{indices_steps, numbers_of, run_steps};
 ghost use Rattle.circle_transcript.specs.Runs.{ArePlayable, Draws, DrawsFrom};
 ghost use Rattle.circle_transcript.specs.Shape.{claimed_widths};
 ghost use Rattle.circle_transcript.specs.ShapeOf.{shape_of};
 ghost use Rattle.circle_transcript.specs.Transcript.{due, numbers, run_of, IsSame};
 ghost use Rattle.circle_prover.specs.OfFoldable.{AreMadeOf, IsRunFailure, IsShapeFailure};
 ghost use Rattle.circle_prover.specs.OfFoldable.{round_count};
-ghost use Rattle.circle_prover.specs.Words.{taken_in};
+ghost use Rattle.circle_prover.specs.Folding.{AreRoundsOver, IsBegun, IsFoldFailure, IsFoldedLayer};
+ghost use Rattle.circle_prover.specs.Folding.{folding_steps};
+ghost use Rattle.circle_prover.specs.Words.{ArePlayed, taken_in};
 
-use crate::first_layer::{final_coefficients, fold_first_layer};
+use crate::first_layer::{FoldedLayer, final_coefficients, fold_first_layer};
 use crate::foldable::FoldableMatrices;
 use crate::heights::greatest_height;
-use crate::rounds::play_rounds;
+use crate::rounds::Rounds;
 use circle_challenger::{CanObserve, CanSample, GrindingChallenger, RunChallenger};
 use circle_commit::Mmcs;
 use circle_field::{ComplexExtendable, ExtensionField, Field};
@@ -52,6 +54,99 @@ pub struct CommittedWords<F, EF, Com, Data> {
 }
 
 impl<F: ComplexExtendable, EF: ExtensionField<F>, M: Mmcs<EF>> FoldableMatrices<'_, F, EF, M> {
+    // Absorbs the claims, commits to the first layer, and folds it by the challenge drawn after it.
+    // Returns it with the codeword that the rounds begin with.
+    fn fold_layer<'b, C>(
+        &self,
+        alloc: Global,
+        transcript: &mut CircleProverTranscript<'b, C, F, EF, M::Commitment>,
+        claims: &[OpeningClaim<EF>],
+    ) -> Result<(FoldedLayer<F, EF, M::Commitment, M::ProverData>, Vec<EF>), ProverError>
+    where
+        C: CanSample<F> + GrindingChallenger<F> + CanObserve<M::Commitment>,
+        requires next { due transcript.old ≡ run_steps EF.DEGREE (widths_of (claims_of claims.now))
+            (round_count self.now) (numbers transcript.old) }
+        requires small { (numbers transcript.old).batch_pow_bits ≤ 63 }
+        ensures same { IsSame transcript.old transcript.new }
+        ensures due { OnOk result (due transcript.new
+            ≡ folding_steps EF.DEGREE (round_count self.now) (numbers transcript.old)) }
+        ensures easy { IfOk result (λ r.
+            (numbers transcript.old).batch_pow_bits ≡ 0 → r.0.witness ≡ F.ops.zero) }
+        ensures begun { IfOk result (λ r.
+            IsBegun transcript.old transcript.new (claims_of claims.now) r.0) }
+        ensures layer { IfOk result (λ r.
+            IsFoldedLayer self.now M.commits M.matrices r.0 r.1.items) }
+        ensures failure { IfErr result (IsRunFailure self.now (run_of transcript.old) M.commits
+            claims.now transcript.old) }
+    {
+        let (alpha, batch) = transcript.batch_phase(claims)?;
+        let layer = self.commit_first_layer(alloc, alpha)?;
+        let bivariate = transcript.first_layer(&layer.commitment);
+        let (tallest, joining) = fold_first_layer::<F, EF, M>(
+            alloc,
+            &self.params.mmcs,
+            bivariate,
+            &layer.heights,
+            &layer.kept,
+        )?;
+        let folded = FoldedLayer {
+            alpha,
+            witness: batch.unwrap_or(F::ZERO),
+            layer,
+            bivariate,
+            joining,
+        };
+        Ok((folded, tallest))
+    }
+
+    // Plays the rounds, the first of the tallest codeword, and finds the coefficients of the
+    // polynomial whose values the last codeword is.
+    fn fold_rounds<'b, C>(
+        &self,
+        alloc: Global,
+        transcript: &mut CircleProverTranscript<'b, C, F, EF, M::Commitment>,
+        first: &FoldedLayer<F, EF, M::Commitment, M::ProverData>,
+        tallest: Vec<EF>,
+    ) -> Result<(Rounds<F, EF, M::Commitment, M::ProverData>, Vec<EF>), ProverError>
+    where
+        C: CanSample<F> + GrindingChallenger<F> + CanObserve<M::Commitment>,
+        requires next { due transcript.old
+            ≡ folding_steps EF.DEGREE (round_count self.now) (numbers transcript.old) }
+        requires small { (numbers transcript.old).commit_pow_bits ≤ 63 }
+        requires layer { IsFoldedLayer self.now M.commits M.matrices first.now tallest.items }
+        ensures same { IsSame transcript.old transcript.new }
+        ensures due { OnOk result
+            (due transcript.new ≡ indices_steps EF.DEGREE (numbers transcript.new)) }
+        ensures easy { IfOk result (λ r. (numbers transcript.old).commit_pow_bits ≡ 0 →
+            All (λ w. w ≡ F.ops.zero) r.0.witnesses.items) }
+        ensures played { IfOk result (λ r. ArePlayed transcript.old transcript.new r.0) }
+        ensures count { IfOk result (λ r.
+            length r.1.items ≡ 2 ^ self.now.params.now.log_final_poly_len) }
+        ensures rounds { IfOk result (λ r.
+            AreRoundsOver self.now M.commits M.matrices first.now r.0 r.1.items) }
+        ensures failure { IfErr result
+            (IsFoldFailure self.now (run_of transcript.old) M.commits first.now transcript.old) }
+    {
+        let log_points = self.params.log_blowup + self.params.log_final_poly_len;
+        let log_max_height = greatest_height(self.matrices);
+        let (rounds, word) = self.play_rounds(
+            alloc,
+            transcript,
+            log_max_height - 1 - log_points,
+            log_max_height - 1,
+            tallest,
+            &first.layer.heights[..first.layer.heights.len() - 1],
+            &first.joining,
+        )?;
+        let final_poly = final_coefficients::<F, EF>(
+            alloc,
+            &word,
+            log_points,
+            self.params.log_final_poly_len,
+        )?;
+        Ok((rounds, final_poly))
+    }
+
     // Plays the run of a transcript that has just begun.
     fn play<'b, C>(
         &self,
@@ -82,38 +177,19 @@ impl<F: ComplexExtendable, EF: ExtensionField<F>, M: Mmcs<EF>> FoldableMatrices<
         ensures failure { IfErr result (IsRunFailure self.now (run_of transcript.old) M.commits
             claims.now transcript.old) }
     {
-        let (alpha, batch) = transcript.batch_phase(claims)?;
-        let layer = self.commit_first_layer(alloc, alpha)?;
-        let bivariate = transcript.first_layer(&layer.commitment);
-        let (tallest, joining) = fold_first_layer::<F, EF, M>(
-            alloc,
-            &self.params.mmcs,
-            bivariate,
-            &layer.heights,
-            &layer.kept,
-        )?;
-        let log_points = self.params.log_blowup + self.params.log_final_poly_len;
-        let log_max_height = greatest_height(self.matrices);
-        let (rounds, word) = play_rounds(
-            alloc,
-            transcript,
-            &self.params.mmcs,
-            log_max_height - 1 - log_points,
-            log_max_height - 1,
-            tallest,
-            &layer.heights[..layer.heights.len() - 1],
-            &joining,
-        )?;
-        let final_poly = final_coefficients::<F, EF>(
-            alloc,
-            &word,
-            log_points,
-            self.params.log_final_poly_len,
-        )?;
+        let (first, tallest) = self.fold_layer(alloc, transcript, claims)?;
+        let (rounds, final_poly) = self.fold_rounds(alloc, transcript, &first, tallest)?;
         let (indices, query) = transcript.query_phase(alloc, &final_poly)?;
+        let FoldedLayer {
+            alpha,
+            witness,
+            layer,
+            bivariate,
+            ..
+        } = first;
         Ok(CommittedWords {
             heights: layer.heights,
-            log_max_height,
+            log_max_height: greatest_height(self.matrices),
             draws: CircleDraws {
                 alpha,
                 bivariate,
@@ -121,7 +197,7 @@ impl<F: ComplexExtendable, EF: ExtensionField<F>, M: Mmcs<EF>> FoldableMatrices<
                 indices,
             },
             witnesses: CircleWitnesses {
-                batch: batch.unwrap_or(F::ZERO),
+                batch: witness,
                 rounds: rounds.witnesses,
                 query: query.unwrap_or(F::ZERO),
             },

@@ -1,20 +1,8 @@
 use Rattle.std.proofs.Common.{take}
-use Rattle.circle_relation.specs.Accepts.{Fields}
-use Rattle.circle_codewords.specs.Values.{AreOff}
+use Rattle.circle_codewords.specs.Values.{AreOffStandard}
 use Rattle.circle_codewords.proofs.values.are_off_domain.Given as goal
 
 abbrev pub invariant-loop-point : goal.invariant-loop-point
 invariant-loop-point g l =
-    let k : Fields g.row.F.Denot g.row.EF.Denot =
-    record {
-      field = g.F.Operations.ops;
-      gen = g.F.ComplexExtendable.generators;
-      two_adicity =
-          g.F.ComplexExtendable.CIRCLE_TWO_ADICITY;
-      is_zero = λ w. g.F.PartialEq.eq w g.F.Field.ZERO;
-      extension = g.EF.Operations.ops;
-      embed = g.EF.ExtensionField.embed;
-      same =
-          g.EF.PartialEq.eq;
-    } in
-    AreOff k l.log_height (take l.point-index l.points)
+    AreOffStandard g.F.Operations.ops g.F.ComplexExtendable.generators g.EF.Operations.ops
+    g.EF.ExtensionField.embed l.log_height (take l.point-index l.points)

@@ -3,11 +3,11 @@ use Rattle.circle_completeness.proofs.acceptance.openings_are_accepted.Goals as 
 
 pub returns : goal.returns
 returns g c =
+    let o = c.args.requests.now in
+    let p = o.params.now in
     accepts-openings _ g.Val.Operations.laws g.EF.Operations.laws g.met.EF.ExtensionField.embedding
     g.met.Val.ComplexExtendable.generators_law g.met.Val.ComplexExtendable.at_most_62 _
-    g.met.C.CanSampleBits.bits_below
-    c.args.params.now g.InputMmcs.Mmcs.matrices (g.InputMmcs.Mmcs.commits c.args.mmcs.now)
-    (g.InputMmcs.Mmcs.authenticates c.args.mmcs.now)
-    (g.FriMmcs.Mmcs.commits c.args.params.now.mmcs)
-    (g.FriMmcs.Mmcs.authenticates c.args.params.now.mmcs)
-    c.args.requests.now c.requires.parameters c.requires.arity c.requires.requests
+    g.met.C.CanSampleBits.bits_below p g.InputMmcs.Mmcs.matrices
+    (g.InputMmcs.Mmcs.commits o.mmcs.now) (g.InputMmcs.Mmcs.authenticates o.mmcs.now)
+    (g.FriMmcs.Mmcs.commits p.mmcs) (g.FriMmcs.Mmcs.authenticates p.mmcs) o.requests.now o.fit
+    o.binary o.openable

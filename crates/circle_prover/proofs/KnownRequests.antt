@@ -1,0 +1,184 @@
+-- What is known of requests that can be opened, and of their matrices once their values are known.
+use Rattle.std.specs.Prelude.{◌≡◌, ◌+◌, ◌^◌, ◌<◌, ◌≤◌, List, length, map, flat_map, All, Vec}
+use Rattle.std.specs.Prelude.{slice_index_or}
+use Rattle.std.specs.List.{AllZip}
+use Rattle.std.specs.declared.alloc.Global.{Global}
+use Rattle.std.proofs.Common.{ℕ, sym, ap, ◌∙◌, subst, arith, get_or}
+use Rattle.std.proofs.lemmas.List.{get_or-map, length-map}
+use Rattle.circle_commit.specs.Mmcs.{greatest, opened_rows}
+use Rattle.circle_commit.specs.Pcs.{Openings, openings}
+use Rattle.circle_commit.specs.RowMajorMatrix.{height_of}
+use Rattle.circle_commit.specs.declared.matrix.RowMajorMatrix.{RowMajorMatrix}
+use Rattle.circle_commit.specs.declared.pcs.OpeningRequest.{OpeningRequest}
+use Rattle.circle_field.specs.Field.{FieldOps}
+use Rattle.circle_relation.specs.Accepts.{Fields}
+use Rattle.circle_relation.specs.Statement.{all_matrices, log_max_height}
+use Rattle.circle_relation.specs.Taken.{claims_taken, point_taken, widths_by}
+use Rattle.circle_transcript.specs.Draw.{Claim}
+use Rattle.circle_codewords.specs.Requests.{AreAnswers, AreHeights, IsFit, all_committed}
+use Rattle.circle_codewords.specs.Requests.{IsOpenable, lists_of, log_of}
+use Rattle.circle_codewords.specs.Words.{Committed, committed_of}
+use Rattle.circle_codewords.specs.declared.matrix.OpenedMatrix.{OpenedMatrix}
+use Rattle.circle_prover.specs.OfRequests.{AreAnsweredBy, AreMatricesWith, AreOpenableAt}
+use Rattle.circle_prover.specs.OfRequests.{AreValuesAt, claims_with, seen_with}
+use Rattle.circle_prover.specs.Words.{AreTall, top_of}
+use Rattle.circle_prover.specs.declared.openable.OpenableRequests.{OpenableRequests}
+use Rattle.circle_prover.proofs.Answered.{all-some, batch-heights, fit-known, heights-back}
+use Rattle.circle_prover.proofs.Answered.{heights-known}
+use Rattle.circle_prover.proofs.Asked.{all-taken, all-widths, top-claimed}
+use Rattle.circle_prover.proofs.Requested.{as-long, at-place, map-at}
+use Rattle.circle_prover.proofs.Seen.{top-seen}
+use Rattle.circle_prover.proofs.Tops.{matrices-low, top-known}
+
+module _ {F E I W IC ID IP IE WC WD WP WE : Type 0} {over inputs ic ip ie words wc wp we : _}
+    (o : OpenableRequests F E I W IC ID IP IE WC WD WP WE over inputs ic ip ie words wc wp we)
+  where
+    -- the matrices of a request, by the names that the code has for them and for its points
+    pub request-openable : (i : ℕ) (r : OpeningRequest ID E) (ms : List (RowMajorMatrix F))
+        (points : List (Vec E Global)) → i < length o.requests.now →
+        r ≡ get_or o.requests.now i r → ms ≡ inputs.matrices r.prover_data.now →
+        points ≡ r.points.items → AreOpenableAt o ms (lists_of points)
+    request-openable i r ms points lt is are given =
+        subst (λ ps. AreOpenableAt o ms (lists_of ps)) (sym given)
+        (subst (λ xs. AreOpenableAt o xs (lists_of r.points.items)) (sym are)
+        (subst (IsFit inputs.matrices over.fields o.params.now.log_blowup over.fields.two_adicity)
+        (sym is) (o.openable.fit i r lt)))
+
+    -- and there is a list of points for each
+    pub request-lists : (i : ℕ) (r : OpeningRequest ID E) (ms : List (RowMajorMatrix F))
+        (points : List (Vec E Global)) → i < length o.requests.now →
+        r ≡ get_or o.requests.now i r → ms ≡ inputs.matrices r.prover_data.now →
+        points ≡ r.points.items → length points ≡ length ms
+    request-lists i r ms points lt is are given =
+        sym (length-map points (λ v. v.items))
+        ∙ sym (as-long (IsOpenable over.fields over.fields.two_adicity o.params.now.log_blowup) ms
+        (lists_of points) (request-openable i r ms points lt is are given))
+
+    -- there are values for each request
+    pub values-count : (batches : List (Vec (Vec (Vec E Global) Global) Global)) →
+        AreAnsweredBy o (openings batches) → length batches ≡ length o.requests.now
+    values-count batches answered =
+        sym (length-map batches (λ (v : Vec (Vec (Vec E Global) Global) Global). opened_rows v.items))
+        ∙ sym (as-long (AreAnswers inputs.matrices over.fields o.params.now.log_blowup)
+        o.requests.now (openings batches) answered)
+
+    -- the values of a request, by the names that the code has for them, its matrices and its points
+    pub request-answered : (batches : List (Vec (Vec (Vec E Global) Global) Global)) →
+        AreAnsweredBy o (openings batches) → (i : ℕ) (r : OpeningRequest ID E)
+        (b : Vec (Vec (Vec E Global) Global) Global) (ms : List (RowMajorMatrix F))
+        (points : List (Vec E Global)) (values : List (Vec (Vec E Global) Global)) →
+        i < length o.requests.now → i < length batches → r ≡ get_or o.requests.now i r →
+        b ≡ get_or batches i b → ms ≡ inputs.matrices r.prover_data.now →
+        points ≡ r.points.items → values ≡ b.items →
+        (length values ≡ length points) × AreValuesAt o ms (lists_of points) (opened_rows values)
+    request-answered batches answered i r b ms points values lt lt' is is' are given lent =
+        let rows : Vec (Vec (Vec E Global) Global) Global → List (List (List E)) =
+        λ v. opened_rows v.items in
+        let answers = at-place (AreAnswers inputs.matrices over.fields o.params.now.log_blowup)
+        o.requests.now (openings batches) i r (rows b) answered lt is
+        (map-at rows batches i b lt' is') in (
+          ap length lent ∙ sym (length-map b.items (λ v. lists_of v.items)) ∙ answers.1
+              ∙ length-map r.points.items (λ v. v.items) ∙ sym (ap length given),
+          subst (λ vs. AreValuesAt o ms (lists_of points) (opened_rows vs)) (sym lent)
+              (subst (λ ps. AreValuesAt o ms (lists_of ps) (opened_rows b.items)) (sym given)
+              (subst (λ xs. AreValuesAt o xs (lists_of r.points.items) (opened_rows b.items))
+              (sym are) answers.0)),
+        )
+
+    module _ (values : Openings E) where
+      -- each matrix leaves something to fold, and the group has a domain for it
+      tall-with : All (λ m. o.params.now.log_blowup + o.params.now.log_final_poly_len + 2
+          ≤ m.log_height) (seen_with o values)
+      tall-with =
+          heights-known over.fields o.params.now.log_blowup
+          (λ h. o.params.now.log_blowup + o.params.now.log_final_poly_len + 2 ≤ h) inputs.matrices
+          o.requests.now values o.openable.tall
+
+      low-with : All (λ m. m.log_height < over.fields.two_adicity) (seen_with o values)
+      low-with =
+          heights-known over.fields o.params.now.log_blowup (λ h. h < over.fields.two_adicity)
+          inputs.matrices o.requests.now values
+          (fit-known inputs.matrices over.fields o.params.now.log_blowup over.fields.two_adicity
+          (λ m. log_of (height_of m) < over.fields.two_adicity) (λ m points can. can.in_group)
+          o.requests.now o.openable.fit)
+
+      -- the greatest height that is claimed is theirs
+      pub top-with : log_max_height o.params.now.log_blowup (all_matrices (claims_with o values))
+          ≡ top_of (seen_with o values)
+      top-with =
+          top-claimed o.params.now.log_blowup
+          (all_committed inputs.matrices over.fields o.params.now.log_blowup o.requests.now values)
+          (λ i m lt. let tall = tall-with i m lt in omega (arith, tall))
+
+      -- the matrices as they are listed: the greatest height
+      pub top-listed : (list : List (OpenedMatrix F E over)) → AreMatricesWith o values list →
+          greatest (map (λ m. m.log_height) list) ≡ top_of (seen_with o values)
+      top-listed list are = top-seen over.fields o.params.now.log_blowup list ∙ ap top_of are
+
+      -- the claims on them as the transcript takes them in
+      pub taken-listed : (l : FieldOps E) (list : List (OpenedMatrix F E over))
+          (taken : List (Claim E)) → AreMatricesWith o values list →
+          ((k : Fields F E) (blowup : ℕ) → taken ≡ flat_map (λ m. map (point_taken l) m.claims)
+          (map (committed_of k blowup) list)) → taken ≡ claims_taken l (claims_with o values)
+      taken-listed l list taken are is =
+          is over.fields o.params.now.log_blowup
+          ∙ ap (flat_map (λ (m : Committed F E). map (point_taken l) m.claims)) are
+          ∙ sym (all-taken o.params.now.log_blowup l
+          (all_committed inputs.matrices over.fields o.params.now.log_blowup o.requests.now values))
+
+      module _ (answers : AreAnsweredBy o values) where
+        -- there is one
+        pub are-tall : AreTall o.params.now (seen_with o values)
+        are-tall = (
+          all-some over.fields o.params.now.log_blowup inputs.matrices o.requests.now values answers
+              o.openable.some o.openable.matrices,
+          tall-with,
+        )
+
+        pub top-high : o.params.now.log_blowup + o.params.now.log_final_poly_len + 2
+            ≤ top_of (seen_with o values)
+        top-high =
+            top-known (seen_with o values)
+            (λ h. o.params.now.log_blowup + o.params.now.log_final_poly_len + 2 ≤ h) are-tall.0
+            are-tall.1
+
+        pub top-low : top_of (seen_with o values) < over.fields.two_adicity
+        top-low = top-known (seen_with o values) (λ h. h < over.fields.two_adicity) are-tall.0
+            low-with
+
+        -- of the matrices as they are listed: there is one, and each leaves something to fold
+        pub listed-tall : (list : List (OpenedMatrix F E over)) → AreMatricesWith o values list →
+            (1 ≤ length list) × All (λ m. o.params.now.log_blowup
+            + o.params.now.log_final_poly_len + 2 ≤ m.log_height) list
+        listed-tall list are =
+            let read = committed_of over.fields o.params.now.log_blowup in
+            let IsTall : Committed F E → Type 0 =
+            λ m. o.params.now.log_blowup + o.params.now.log_final_poly_len + 2 ≤ m.log_height in
+            let tall = subst (All IsTall) (sym are) are-tall.1 in (
+              omega (arith, are-tall.0, ap length are, length-map list read),
+              λ i d lt.
+                  subst IsTall (get_or-map read list i d (read d) lt)
+                  (tall i (read d) (omega (arith, lt, length-map list read))),
+            )
+
+        -- the numbers of columns of what is claimed
+        pub widths-with : widths_by (claims_with o values)
+            ≡ map (λ b. map (λ m. map (λ w. length w) m) b) values
+        widths-with = all-widths o.params.now.log_blowup inputs.matrices over.fields o.requests.now
+            values answers
+
+        -- the heights of each batch
+        pub heights-with : All (λ r. AreHeights (top_of (seen_with o values))
+            (inputs.matrices r.prover_data.now)) o.requests.now
+        heights-with i r lt =
+            let top = top_of (seen_with o values) in
+            let powers =
+            fit-known inputs.matrices over.fields o.params.now.log_blowup over.fields.two_adicity
+            (λ m. height_of m ≡ 2 ^ log_of (height_of m)) (λ m points can. can.power) o.requests.now
+            o.openable.fit in
+            let low =
+            heights-back over.fields o.params.now.log_blowup (λ h. h ≤ top) inputs.matrices
+            o.requests.now values answers (matrices-low (seen_with o values)) in
+            batch-heights top
+            (inputs.matrices (slice_index_or o.requests.now i r).prover_data.now)
+            (o.openable.matrices i r lt) (powers i r lt) (low i r lt)
