@@ -1,18 +1,26 @@
 -- What contracts see of the scheme's calls.
-use Rattle.std.specs.Prelude.{◌≡◌, Bool, IsTrue, List, map, flat_map, Vec}
+use Rattle.std.specs.Prelude.{◌≡◌, ℕ, Bool, IsTrue, List, map, flat_map, Vec}
 use Rattle.std.specs.declared.alloc.Global.{Global}
+use Rattle.circle_commit.specs.Honest.{AreTrueValues}
 use Rattle.circle_commit.specs.Pcs.{Openings, openings}
 use Rattle.circle_commit.specs.RowMajorMatrix.{rows}
 use Rattle.circle_completeness.specs.Honest.{AreOfLowDegree, AreReadAsIs}
 use Rattle.circle_commit.specs.declared.matrix.RowMajorMatrix.{RowMajorMatrix}
+use Rattle.circle_commit.specs.declared.mmcs.Mmcs.{Ghosts as MmcsOf}
 use Rattle.circle_commit.specs.declared.params.FriParameters.{FriParameters}
 use Rattle.circle_commit.specs.declared.pcs.OpeningRequest.{OpeningRequest}
+use Rattle.circle_domain.specs.declared.domain.CircleDomain.{CircleDomain}
+use Rattle.circle_field.specs.Circle.{Coordinates}
+use Rattle.circle_field.specs.Field.{FieldOps}
+use Rattle.circle_field.specs.declared.field.Operations.{Ghosts}
 use Rattle.circle_relation.specs.declared.error.ProverError.{ProverError}
 use Rattle.circle_relation.specs.declared.error.ProverError.TheVariants.{LastWordNotConstant}
 use Rattle.circle_relation.specs.TestsInOrder.{Test}
 use Rattle.circle_prover.specs.Requesting.{request_tests}
 use Rattle.circle_relation.specs.Accepts.{Fields}
 use Rattle.circle_prover.specs.Opening.{answered_matrices}
+use Rattle.p3_circle.specs.Honest.{AreBatchValues}
+use Rattle.p3_circle.specs.Scheme.{IsCommitted}
 use Rattle.p3_circle.specs.declared.pcs.CirclePcs.{CirclePcs}
 
 -- the tests of requests to a scheme
@@ -48,3 +56,14 @@ abbrev pub ReadsOwnRowsIf : {D F E M : Type 0} → Fields F E → (D → List (R
 ReadsOwnRowsIf k kept p requests values =
     AreReadAsIs kept k p requests →
     map (λ m. m.rows) (answered_matrices k p kept requests values) ≡ requested_rows kept requests
+
+-- the values are those of the polynomials of the batches that the requested data were kept of;
+-- inputs is the scheme of the batches
+abbrev pub AreTrueAnswers : {F E I W IC ID IP IE : Type 0} → Ghosts F
+    → (ℕ → Coordinates F) → FieldOps E → (F → E) → MmcsOf I F IC ID IP IE → CirclePcs F I W
+    → List (OpeningRequest ID E) → Openings E → Type 0
+AreTrueAnswers {F = F} g gen l embed inputs pcs =
+    AreTrueValues {Dom = CircleDomain F g} {M = RowMajorMatrix F}
+    (λ batch commitment kept. IsCommitted g.ops gen pcs.fri_params.log_blowup
+    (inputs.commits pcs.mmcs) batch commitment (inputs.matrices kept))
+    (AreBatchValues g.ops gen l embed)
