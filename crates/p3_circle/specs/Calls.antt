@@ -37,12 +37,18 @@ abbrev pub IsAnswer : {S E P : Type 0} → (S → Openings E → P → S → Typ
     → Vec (Vec (Vec (Vec E Global) Global) Global) Global × P → Type 0
 IsAnswer Gives old new answer = Gives old (openings answer.0.items) answer.1 new
 
+-- over a field with the generators of its circle's group, whatever the extension
+abbrev pub IsOver : {F E : Type 0} → FieldOps F → (ℕ → Coordinates F) → Fields F E → Type 0
+IsOver f gen k = (k.field ≡ f) × (k.gen ≡ gen)
+
 -- a refusal names a last codeword that isn't constant only where some requested matrix is not of
 -- low degree
-abbrev pub IsOfHighDegreeIf : {D F E M : Type 0} → Fields F E → (D → List (RowMajorMatrix F))
-    → FriParameters M → List (OpeningRequest D E) → ProverError → Type 0
-IsOfHighDegreeIf k kept p requests e =
-    e ≡ LastWordNotConstant → ¬ AreOfLowDegree kept k p requests
+abbrev pub IsOfHighDegreeIf : {D F E M : Type 0} → FieldOps F → (ℕ → Coordinates F)
+    → (D → List (RowMajorMatrix F)) → FriParameters M → List (OpeningRequest D E) → ProverError
+    → Type 0
+IsOfHighDegreeIf {F = F} {E = E} f gen kept p requests e =
+    e ≡ LastWordNotConstant → (k : Fields F E) → IsOver f gen k
+    → ¬ AreOfLowDegree kept k p requests
 
 -- the rows that were committed to, of the requested matrices one after another
 abbrev pub requested_rows : {D E F : Type 0} → (D → List (RowMajorMatrix F))
@@ -51,11 +57,12 @@ requested_rows kept requests = map rows (flat_map (λ r. kept r.prover_data.now)
 
 -- where each requested matrix is of low degree, or has few columns, the codewords of an opening
 -- with these values are made of the rows that were committed to
-abbrev pub ReadsOwnRowsIf : {D F E M : Type 0} → Fields F E → (D → List (RowMajorMatrix F))
-    → FriParameters M → List (OpeningRequest D E) → Openings E → Type 0
-ReadsOwnRowsIf k kept p requests values =
-    AreReadAsIs kept k p requests →
-    map (λ m. m.rows) (answered_matrices k p kept requests values) ≡ requested_rows kept requests
+abbrev pub ReadsOwnRowsIf : {D F E M : Type 0} → FieldOps F → (ℕ → Coordinates F)
+    → (D → List (RowMajorMatrix F)) → FriParameters M → List (OpeningRequest D E) → Openings E
+    → Type 0
+ReadsOwnRowsIf {F = F} {E = E} f gen kept p requests values =
+    (k : Fields F E) → IsOver f gen k → AreReadAsIs kept k p requests
+    → map (λ m. m.rows) (answered_matrices k p kept requests values) ≡ requested_rows kept requests
 
 -- the values are those of the polynomials of the batches that the requested data were kept of;
 -- inputs is the scheme of the batches
