@@ -3,8 +3,10 @@
 use Rattle.std.specs.Prelude.{◌≡◌, ℕ, ◌≤◌, Bool, IsTrue, List, length, map, All, Any}
 use Rattle.std.specs.List.{AllZip}
 use Rattle.circle_commit.specs.Pcs.{Openings}
+use Rattle.circle_commit.specs.declared.matrix.RowMajorMatrix.{RowMajorMatrix}
 use Rattle.circle_commit.specs.declared.pcs.CommitmentOpening.{CommitmentOpening}
 use Rattle.circle_commit.specs.declared.pcs.OpeningRequest.{OpeningRequest}
+use Rattle.circle_commit.specs.declared.scheme.Pcs.{Ghosts}
 use Rattle.circle_commit.specs.Claims.{lists}
 use Rattle.circle_commit.specs.Honest.{AreAnsweredBy, requested_points}
 use Rattle.circle_round_trip.specs.declared.any_scheme.BatchAtPoints.{BatchAtPoints}
@@ -126,3 +128,19 @@ module _ {E Com Data Dom M S PE VE Proof : Type 0} (size : Dom → ℕ)
   IsReason old new left (Open e) = IsUnopened old new e × (left ≡ old)
   IsReason old new left (Verify e) = IsUnverified old new left e
   IsReason old new left Memory = Unit {0}
+
+-- the same of batches under a scheme, by its members
+module _ {P E C Dom Com Data Proof VE PE F S : Type 0}
+    (scheme : Ghosts P E C Dom Com Data Proof VE PE F S) (pcs : P)
+    (batches : List (BatchAtPoints E Dom (RowMajorMatrix F))) where
+  -- each may be opened at its points, and each search for a witness finds one from this state
+  abbrev pub AreHonestUnder : S → Type 0
+  AreHonestUnder =
+      AreHonestBatches (scheme.commits pcs) (scheme.opens_at pcs) (scheme.finds_witnesses pcs)
+      batches
+
+  -- why there are no values
+  abbrev pub IsReasonUnder : (Dom → ℕ) → S → S → S → RoundTripError PE VE → Type 0
+  IsReasonUnder size =
+      IsReason size (scheme.commits pcs) (scheme.commit_refuses pcs) (scheme.open_gives pcs)
+      (scheme.open_refuses pcs) (scheme.verify_refuses pcs) batches

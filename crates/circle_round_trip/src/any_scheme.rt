@@ -4,11 +4,11 @@ ghost use Rattle.circle_commit.specs.Pcs.{openings};
 ghost use Rattle.circle_commit.specs.Mmcs.{opened_rows};
 ghost use Rattle.circle_commit.specs.Claims.{lists};
 ghost use Rattle.circle_commit.specs.Honest.{requested_points};
-ghost use Rattle.circle_round_trip.specs.RoundTrip.{AreCommitted, HasPoints, IsCommitted};
-ghost use Rattle.circle_round_trip.specs.RoundTrip.{IsUncommitted, IsUncommittedOf};
+ghost use Rattle.circle_round_trip.specs.RoundTrip.{AreCommitted, AreHonestUnder, AreValuesOf};
+ghost use Rattle.circle_round_trip.specs.RoundTrip.{HasPoints, IsCommitted, IsOfMemory};
+ghost use Rattle.circle_round_trip.specs.RoundTrip.{IsReasonUnder, IsUncommitted, IsUncommittedOf};
 ghost use Rattle.circle_round_trip.specs.declared.any_scheme.RoundTripError.TheVariants.{Memory};
 
-use crate::statements::RoundTrips;
 use circle_challenger::ChallengerState;
 use circle_commit::{
     CommittedBatch, OpenedValues, OpenedValuesForMatrix, OpenedValuesForRound, OpeningRequest, Pcs,
@@ -85,13 +85,13 @@ where
     requires asks { All (λ b. P.commit_asks pcs.now b.evaluations.items) batches.items }
     requires points { All HasPoints batches.items }
     requires same { C.state prover.old ≡ C.state verifier.old }
-    ensures accepted { let p = ⟦<P as RoundTrips<Challenge, C>>⟧ in IfErr result (λ e.
-        p.are_honest_batches pcs.now batches.items (C.state prover.old) → p.is_of_memory e) }
-    ensures values { let p = ⟦<P as RoundTrips<Challenge, C>>⟧ in IfOk result (λ v.
-        p.are_values_of pcs.now batches.items (openings v.items)) }
+    ensures accepted { IfErr result (λ e. AreHonestUnder P.Pcs pcs.now batches.items
+        (C.state prover.old) → IsOfMemory P.is_prover_memory P.is_memory e) }
+    ensures values { IfOk result (λ v.
+        AreValuesOf (P.values_of pcs.now) batches.items (openings v.items)) }
     ensures states { OnOk result (C.state prover.new ≡ C.state verifier.new) }
-    ensures reason { let s = C.state in IfErr result (⟦<P as RoundTrips<Challenge, C>>⟧.is_reason
-        pcs.now batches.items (s prover.old) (s prover.new) (s verifier.new)) }
+    ensures reason { let s = C.state in IfErr result (IsReasonUnder P.Pcs pcs.now batches.items
+        P.Domain.size (s prover.old) (s prover.new) (s verifier.new)) }
 {
     let committed = commit_batches(alloc, pcs, batches)?;
     let requests = requests_of(alloc, &committed)?;

@@ -8,14 +8,12 @@
 //!
 //! Its files:
 //!
-//! - In `src/`, `any_scheme.rt`: `round_trip`, and what it takes and returns; `statements.rt`: what
-//!   the members of `Pcs` say of it.
-//! - In `specs/`, `RoundTrip`: batches at points, and why a round trip returns no values.
+//! - In `src/`, `any_scheme.rt`: `round_trip`, and what it takes and returns.
+//! - In `specs/`, `RoundTrip`: batches at points, and why a round trip returns no values; also by
+//!   the members of a scheme, as `AreHonestUnder`.
 //! - In `proofs/`, `Batches`: batches that are committed to, requests for them, and claims.
 #![tactic(auto)]
 
 pub mod any_scheme;
-pub mod statements;
 
 pub use any_scheme::{BatchAtPoints, RoundTripError, round_trip};
-pub use statements::RoundTrips;

@@ -20,6 +20,7 @@ use Rattle.circle_relation.specs.Accepts.{Fields}
 use Rattle.circle_relation.specs.TestsInOrder.{Test, answer}
 use Rattle.p3_circle.specs.Calls.{IsOfHighDegreeIf}
 use Rattle.circle_prover.specs.Requesting.{height_tests, matrix_tests, opening_tests}
+use Rattle.p3_circle.proofs.OwnRows.{low-over}
 use Rattle.p3_circle.specs.Scheme.{IsFirstFrom}
 use Rattle.circle_prover.proofs.Unrefused.{are-fit, are-requests}
 
@@ -75,11 +76,12 @@ pub high-degree : {C S D F E M WC : Type 0} (k : Fields F E) (base : FieldLaws k
     (s t : S) (err : ProverError) →
     IsFirstFrom (opening_tests kept requests k.two_adicity p k same)
     (IsFailure k r p WordCommits kept requests s) s t err →
-    IsOfHighDegreeIf k kept p requests err
+    IsOfHighDegreeIf k.field k.gen kept p requests err
 high-degree k base laws e base_eq base_law same law gens p kept r WordCommits requests powers s t
     err told =
-    λ high low. by low high (answer (opening_tests kept requests k.two_adicity p k same) (tt {0}))
-    refl told
+    λ high others over low.
+    by (λ i d lt j e lt'. low-over k others over _ _ (low i d lt j e lt')) high
+    (answer (opening_tests kept requests k.two_adicity p k same) (tt {0})) refl told
   where
     by : AreOfLowDegree kept k p requests → err ≡ LastWordNotConstant →
         (a : Result (Unit {0}) ProverError) →

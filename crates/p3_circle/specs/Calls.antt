@@ -1,18 +1,26 @@
 -- What contracts see of the scheme's calls.
-use Rattle.std.specs.Prelude.{◌≡◌, Bool, IsTrue, List, map, flat_map, Vec}
+use Rattle.std.specs.Prelude.{◌≡◌, ℕ, Bool, IsTrue, List, map, flat_map, Vec}
 use Rattle.std.specs.declared.alloc.Global.{Global}
+use Rattle.circle_commit.specs.Honest.{AreTrueValues}
 use Rattle.circle_commit.specs.Pcs.{Openings, openings}
 use Rattle.circle_commit.specs.RowMajorMatrix.{rows}
 use Rattle.circle_completeness.specs.Honest.{AreOfLowDegree, AreReadAsIs}
 use Rattle.circle_commit.specs.declared.matrix.RowMajorMatrix.{RowMajorMatrix}
+use Rattle.circle_commit.specs.declared.mmcs.Mmcs.{Ghosts as MmcsOf}
 use Rattle.circle_commit.specs.declared.params.FriParameters.{FriParameters}
 use Rattle.circle_commit.specs.declared.pcs.OpeningRequest.{OpeningRequest}
+use Rattle.circle_domain.specs.declared.domain.CircleDomain.{CircleDomain}
+use Rattle.circle_field.specs.Circle.{Coordinates}
+use Rattle.circle_field.specs.Field.{FieldOps}
+use Rattle.circle_field.specs.declared.field.Operations.{Ghosts}
 use Rattle.circle_relation.specs.declared.error.ProverError.{ProverError}
 use Rattle.circle_relation.specs.declared.error.ProverError.TheVariants.{LastWordNotConstant}
 use Rattle.circle_relation.specs.TestsInOrder.{Test}
 use Rattle.circle_prover.specs.Requesting.{request_tests}
 use Rattle.circle_relation.specs.Accepts.{Fields}
 use Rattle.circle_prover.specs.Opening.{answered_matrices}
+use Rattle.p3_circle.specs.Honest.{AreBatchValues}
+use Rattle.p3_circle.specs.Scheme.{IsCommitted}
 use Rattle.p3_circle.specs.declared.pcs.CirclePcs.{CirclePcs}
 
 -- the tests of requests to a scheme
@@ -29,12 +37,18 @@ abbrev pub IsAnswer : {S E P : Type 0} → (S → Openings E → P → S → Typ
     → Vec (Vec (Vec (Vec E Global) Global) Global) Global × P → Type 0
 IsAnswer Gives old new answer = Gives old (openings answer.0.items) answer.1 new
 
+-- over a field with the generators of its circle's group, whatever the extension
+abbrev pub IsOver : {F E : Type 0} → FieldOps F → (ℕ → Coordinates F) → Fields F E → Type 0
+IsOver f gen k = (k.field ≡ f) × (k.gen ≡ gen)
+
 -- a refusal names a last codeword that isn't constant only where some requested matrix is not of
 -- low degree
-abbrev pub IsOfHighDegreeIf : {D F E M : Type 0} → Fields F E → (D → List (RowMajorMatrix F))
-    → FriParameters M → List (OpeningRequest D E) → ProverError → Type 0
-IsOfHighDegreeIf k kept p requests e =
-    e ≡ LastWordNotConstant → ¬ AreOfLowDegree kept k p requests
+abbrev pub IsOfHighDegreeIf : {D F E M : Type 0} → FieldOps F → (ℕ → Coordinates F)
+    → (D → List (RowMajorMatrix F)) → FriParameters M → List (OpeningRequest D E) → ProverError
+    → Type 0
+IsOfHighDegreeIf {F = F} {E = E} f gen kept p requests e =
+    e ≡ LastWordNotConstant → (k : Fields F E) → IsOver f gen k
+    → ¬ AreOfLowDegree kept k p requests
 
 -- the rows that were committed to, of the requested matrices one after another
 abbrev pub requested_rows : {D E F : Type 0} → (D → List (RowMajorMatrix F))
@@ -43,8 +57,20 @@ requested_rows kept requests = map rows (flat_map (λ r. kept r.prover_data.now)
 
 -- where each requested matrix is of low degree, or has few columns, the codewords of an opening
 -- with these values are made of the rows that were committed to
-abbrev pub ReadsOwnRowsIf : {D F E M : Type 0} → Fields F E → (D → List (RowMajorMatrix F))
-    → FriParameters M → List (OpeningRequest D E) → Openings E → Type 0
-ReadsOwnRowsIf k kept p requests values =
-    AreReadAsIs kept k p requests →
-    map (λ m. m.rows) (answered_matrices k p kept requests values) ≡ requested_rows kept requests
+abbrev pub ReadsOwnRowsIf : {D F E M : Type 0} → FieldOps F → (ℕ → Coordinates F)
+    → (D → List (RowMajorMatrix F)) → FriParameters M → List (OpeningRequest D E) → Openings E
+    → Type 0
+ReadsOwnRowsIf {F = F} {E = E} f gen kept p requests values =
+    (k : Fields F E) → IsOver f gen k → AreReadAsIs kept k p requests
+    → map (λ m. m.rows) (answered_matrices k p kept requests values) ≡ requested_rows kept requests
+
+-- the values are those of the polynomials of the batches that the requested data were kept of;
+-- inputs is the scheme of the batches
+abbrev pub AreTrueAnswers : {F E I W IC ID IP IE : Type 0} → Ghosts F
+    → (ℕ → Coordinates F) → FieldOps E → (F → E) → MmcsOf I F IC ID IP IE → CirclePcs F I W
+    → List (OpeningRequest ID E) → Openings E → Type 0
+AreTrueAnswers {F = F} g gen l embed inputs pcs =
+    AreTrueValues {Dom = CircleDomain F g} {M = RowMajorMatrix F}
+    (λ batch commitment kept. IsCommitted g.ops gen pcs.fri_params.log_blowup
+    (inputs.commits pcs.mmcs) batch commitment (inputs.matrices kept))
+    (AreBatchValues g.ops gen l embed)

@@ -9,6 +9,7 @@ use Rattle.circle_challenger.specs.declared.interaction.Kind.TheVariants.{Messag
 use Rattle.circle_challenger.specs.declared.interaction.Length.TheVariants.{Scalar}
 use Rattle.circle_challenger.specs.declared.interaction.ValueType.TheVariants.{Algebra}
 use Rattle.circle_commit.specs.declared.params.FriParameters.{FriParameters}
+use Rattle.circle_field.specs.Field.{FieldOps}
 use Rattle.circle_relation.specs.Accepts.{Fields, Run, Authenticates, AreApart, HoldsWith}
 use Rattle.circle_relation.specs.Accepts.{InputsAuthenticate, FirstLayerAuthenticates}
 use Rattle.circle_relation.specs.Accepts.{RoundsAuthenticate, round_value, rounds, placed_queries}
@@ -87,12 +88,13 @@ module _ {F E M Com InputCom InputProof WordProof : Type 0} (k : Fields F E)
     pub from : (c : E) → r.proof.final_poly ≡ c ∷ [] → HoldsWithConstant c
         → HoldsWith k params r inputs words
 
--- likewise for claims and a proof, under any challenges; I and W are the schemes of the batches and
--- of the codewords, each with its commitments, data, proofs and errors
-abbrev pub AreSameOfConstants : {F E I W IC ID IP IE WC WD WP WE : Type 0} {g : _} → Fields F E
+-- likewise for claims and a proof, under any challenges and whatever field l extends; I and W are
+-- the schemes of the batches and of the codewords, each with its commitments, data, proofs and
+-- errors
+abbrev pub AreSameOfConstants : {F E I W IC ID IP IE WC WD WP WE : Type 0} {g : _} → FieldOps E
     → FriParameters W → List (CommitmentOpening E IC (CircleDomain F g))
     → CirclePcsProof F E I W F IC ID IP IE WC WD WP WE → Authenticates IC F IP
     → Authenticates WC E WP → Type 0
-AreSameOfConstants {E = E} k params claims proof inputs words =
-    (drawn : Challenges E)
+AreSameOfConstants {F = F} {E = E} l params claims proof inputs words =
+    (k : Fields F E) (drawn : Challenges E) → k.extension ≡ l
     → IsSameOfConstants k params (run_with claims proof drawn) inputs words

@@ -2,6 +2,7 @@ pub mod Calls
 pub mod Committing
 pub mod Constant
 pub mod Honest
+pub mod Members
 pub mod Scheme
 pub mod SchemeFacts
 pub mod SchemeLaws

@@ -8,7 +8,6 @@ use Rattle.circle_commit.specs.Mmcs.{HaveHeightsOfPowers}
 use Rattle.circle_commit.specs.RowMajorMatrix.{height_of}
 use Rattle.circle_commit.specs.declared.matrix.RowMajorMatrix.{RowMajorMatrix}
 use Rattle.circle_commit.specs.declared.params.FriParameters.{FriParameters}
-use Rattle.circle_commit.specs.declared.pcs.CommitmentOpening.{CommitmentOpening}
 use Rattle.circle_commit.specs.declared.pcs.OpeningRequest.{OpeningRequest}
 use Rattle.circle_domain.specs.Domain.{log_size}
 use Rattle.circle_domain.specs.declared.domain.CircleDomain.{CircleDomain}
@@ -17,21 +16,17 @@ use Rattle.circle_field.specs.Field.{FieldOps}
 use Rattle.circle_field.specs.declared.field.Operations.{Ghosts}
 use Rattle.circle_commit.specs.Kept.{AreKept}
 use Rattle.circle_relation.specs.Taken.{drawn_by}
-use Rattle.circle_relation.specs.Accepts.{Authenticates, Fields}
-use Rattle.circle_relation.specs.declared.proof.CirclePcsProof.{CirclePcsProof}
+use Rattle.circle_relation.specs.Accepts.{AcceptsFrom, Authenticates, Fields}
+use Rattle.circle_relation.specs.Statement.{BatchClaim, OpeningProof}
 use Rattle.p3_circle.specs.Committing.{AreExtensions}
 use Rattle.p3_circle.specs.Scheme.{AreCommittedTo, IsCommitted}
-use Rattle.p3_circle.specs.Verdict.{IsAccepted}
 
-module _ {C S F E I W IC ID IP IE WC WD WP WE : Type 0} {g : _} (k : Fields F E)
-    (r : RunMoves C S F E WC)
-    (inputs : I → Authenticates IC F IP) (words : W → Authenticates WC E WP) (mmcs : I)
-    (p : FriParameters W)
-    (claims : List (CommitmentOpening E IC (CircleDomain F g)))
-    (proof : CirclePcsProof F E I W F IC ID IP IE WC WD WP WE) where
+module _ {S C F E M Com IC IP WP : Type 0} {k : Fields F E} {p : FriParameters M}
+    {r : RunMoves C S F E Com} {inputs : Authenticates IC F IP} {words : Authenticates Com E WP}
+    {batches : List (BatchClaim IC E)} {proof : OpeningProof F E Com IP WP} where
   -- what is drawn fixes the state after
-  pub one-state : (s t u : S) → IsAccepted k r inputs words mmcs p claims proof s t →
-      IsAccepted k r inputs words mmcs p claims proof s u → t ≡ u
+  pub one-state : (s t u : S) → AcceptsFrom k p r inputs words batches proof s t →
+      AcceptsFrom k p r inputs words batches proof s u → t ≡ u
   one-state s t u a b =
       let both : Ok (drawn_by r.base.coefficients a.drawn t) ≡ Ok
       (drawn_by r.base.coefficients b.drawn u) = sym a.draws ∙ b.draws in

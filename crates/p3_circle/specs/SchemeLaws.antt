@@ -15,8 +15,8 @@ use Rattle.circle_commit.specs.declared.pcs.CommitmentOpening.{CommitmentOpening
 use Rattle.circle_commit.specs.declared.pcs.OpeningRequest.{OpeningRequest}
 use Rattle.circle_completeness.proofs.TrueAnswers.{never-too-high}
 use Rattle.circle_domain.specs.declared.domain.CircleDomain.{CircleDomain}
-use Rattle.circle_field.specs.Circle.{AreGenerators}
-use Rattle.circle_field.specs.Field.{FieldLaws, IsEmbedding}
+use Rattle.circle_field.specs.Circle.{AreGenerators, Coordinates}
+use Rattle.circle_field.specs.Field.{FieldLaws, FieldOps, IsEmbedding}
 use Rattle.circle_field.specs.declared.field.Operations.{Ghosts}
 use Rattle.circle_prover.specs.Opening.{IsFailure}
 use Rattle.circle_codewords.specs.Requests.{AreAnswers, AreValuesOf, IsFit, IsOpenable}
@@ -79,17 +79,16 @@ all-counted k two blowup kept (r ∷ rs) (v ∷ vs) fit are = (
   all-counted k two blowup kept rs vs fit.1 are.1,
 )
 
-pub each-point : {C S D F E I M IC IP ID IE WC WD WP WE : Type 0} (k : Fields F E) (two : ℕ)
-    (p : FriParameters M) (kept : D → List (RowMajorMatrix F))
-    (Commits : List (RowMajorMatrix F) → IC → Type 0) (r : RunMoves C S F E WC)
-    (authenticates : Authenticates IC F IP) (WordCommits : List (RowMajorMatrix E) → WC → Type 0)
-    (word_authenticates : Authenticates WC E WP)
+pub each-point : {C S D F E I M IC IP ID IE WC WD WP WE : Type 0} {k : Fields F E} {two : ℕ}
+    {p : FriParameters M} {kept : D → List (RowMajorMatrix F)}
+    {Commits : List (RowMajorMatrix F) → IC → Type 0} {r : RunMoves C S F E WC}
+    {authenticates : Authenticates IC F IP} {WordCommits : List (RowMajorMatrix E) → WC → Type 0}
+    {word_authenticates : Authenticates WC E WP}
     (requests : List (OpeningRequest D E)) (values : Openings E)
     (proof : CirclePcsProof F E I M F IC ID IP IE WC WD WP WE) (s t : S) →
     IsGiven p kept k r Commits authenticates WordCommits word_authenticates two requests s values
     proof t → HaveValues requests values
-each-point k two p kept Commits r authenticates WordCommits word_authenticates requests values proof
-    s t given =
+each-point {k = k} {two} {p} {kept} requests values proof s t given =
     all-counted k two p.log_blowup kept requests values
     (recursion_from_All (IsFit kept k p.log_blowup two) requests given.asked.fit) given.answers
 
@@ -114,6 +113,18 @@ true-values g k base laws e two gens p kept Commits r authenticates WordCommits 
     all-valued g k two p base laws e gens kept Commits requests values
     (recursion_from_All (IsFit kept k p.log_blowup two) requests given.asked.fit) given.answers
 
+-- a batch that may be opened is committed to, where memory suffices
+pub honest-commit : {F E M : Type 0} {g : Ghosts F} {gen : ℕ → Coordinates F} {l : FieldOps E}
+    {embed : F → E} (f : FieldOps F) (eq : F → F → Bool) (eq_law : (a b : F) →
+    (eq a b ≡ true) ↔ (a ≡ b)) (two : ℕ) (p : FriParameters M)
+    (batch : List (CircleDomain F g × RowMajorMatrix F)) (points : List (List E))
+    (err : ProverError) → IsHonestBatch f gen l embed two p batch points →
+    IsFirstOf (commit_tests two p eq f batch) err → IsTrue (says_prover_memory err)
+honest-commit {gen = gen} {l} {embed} f eq eq_law two p batch points err honest refused =
+    memory-is err
+    (unrefused (commit_tests two p eq f batch) (λ x. x ≡ Memory) err
+    (batch-passes f gen l embed eq eq_law two p batch points honest) refused)
+
 module _ {F E M : Type 0} {g : Ghosts F} (k : Fields F E) (base : FieldLaws k.field)
     (laws : FieldLaws k.extension) (e : IsEmbedding k.field k.extension k.embed)
     (eq : F → F → Bool) (eq_law : (a b : F) → (eq a b ≡ true) ↔ (a ≡ b)) (same : E → E → Bool)
@@ -121,17 +132,6 @@ module _ {F E M : Type 0} {g : Ghosts F} (k : Fields F E) (base : FieldLaws k.fi
     (small : k.two_adicity ≤ 62) (gens : AreGenerators k.field k.two_adicity k.gen)
     (p : FriParameters M)
   where
-    -- a batch that may be opened is committed to, where memory suffices
-    pub honest-commit : (batch : List (CircleDomain F g × RowMajorMatrix F))
-        (points : List (List E)) (err : ProverError) →
-        IsHonestBatch k k.two_adicity p batch points →
-        IsFirstOf (commit_tests k.two_adicity p eq k.field batch) err →
-        IsTrue (says_prover_memory err)
-    honest-commit batch points err honest refused =
-        memory-is err
-        (unrefused (commit_tests k.two_adicity p eq k.field batch) (λ x. x ≡ Memory) err
-        (batch-passes k eq eq_law same law k.two_adicity small p batch points honest) refused)
-
     module _ {D IC : Type 0} (kept : D → List (RowMajorMatrix F))
         (Commits : List (RowMajorMatrix F) → IC → Type 0) where
       abbrev CommitsTo : List (CircleDomain F g × RowMajorMatrix F) → IC → D → Type 0
@@ -141,15 +141,15 @@ module _ {F E M : Type 0} {g : Ghosts F} (k : Fields F E) (base : FieldLaws k.fi
       pub honest-open : {C S WC : Type 0} (r : RunMoves C S F E WC)
           (WordCommits : List (RowMajorMatrix E) → WC → Type 0)
           (requests : List (OpeningRequest D E)) (s t : S) (err : ProverError) →
-          AreHonest CommitsTo (IsHonestBatch k k.two_adicity p) requests →
+          AreHonest CommitsTo (IsHonestBatch k.field k.gen k.extension k.embed k.two_adicity p)
+          requests →
           FindsWitnesses k r p WordCommits kept requests s →
           IsFirstFrom (opening_tests kept requests k.two_adicity p k same)
           (IsFailure k r p WordCommits kept requests s) s t err
           → IsTrue (says_prover_memory err)
       honest-open r WordCommits requests s t err honest finds refused =
           let tests = opening_tests kept requests k.two_adicity p k same in
-          let ok = requests-pass k eq eq_law same law k.two_adicity small p kept Commits requests
-          honest.0
+          let ok = requests-pass k same law k.two_adicity small p kept Commits requests honest.0
           honest.1 in
           let failure = unrefused-from tests (IsFailure k r p WordCommits kept requests s) s t err
           ok refused in
@@ -168,7 +168,7 @@ module _ {F E M : Type 0} {g : Ghosts F} (k : Fields F E) (base : FieldLaws k.fi
             | inr rest ↦
                 elim rest.2 [
                   | inl high ↦ absurd (never high.0)
-                  | inr stuck ↦ absurd (finds rest.0 err rest.1 stuck)
+                  | inr stuck ↦ absurd (finds.never_stuck rest.0 err rest.1 stuck)
                 ]
           ])
 

@@ -97,12 +97,13 @@ module _ {F E : Type 0} (k : Fields F E) where
   pub own-run-finds : {D M : Type 0} (p : FriParameters M) → p.batch_proof_of_work_bits ≡ 0
       → (kept : D → List (RowMajorMatrix F)) (requests : List (OpeningRequest D E)) (s : ℕ)
       → FindsWitnesses k picky p CommitsToOne kept requests s
-  own-run-finds p easy kept requests s =
-      λ values e answers stuck.
-      let claims = answered_claims k p kept requests values in
-      let shape = shape_by p claims in
-      never p easy (numbers_of shape) refl (answered_matrices k p kept requests values)
-      (claims_taken k.extension claims) (seeded picky shape s) stuck.0 stuck.2
+  own-run-finds p easy kept requests s = record {
+    never_stuck = λ values e answers stuck.
+        let claims = answered_claims k p kept requests values in
+        let shape = shape_by p claims in
+        never p easy (numbers_of shape) refl (answered_matrices k p kept requests values)
+        (claims_taken k.extension claims) (seeded picky shape s) stuck.0 stuck.2;
+  }
 
   -- a run over the same claims with a commitment of nothing is stuck at one bit before its queries
   pub other-run-is-stuck : (n : Numbers) (claims : List (Claim E)) (s : ℕ) → n.query_pow_bits ≡ 1

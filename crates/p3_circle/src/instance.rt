@@ -1,24 +1,21 @@
 //! The scheme as an instance of the traits of schemes.
 ghost use Rattle.circle_commit.specs.Mmcs.{HaveHeightsOfPowers};
-ghost use Rattle.circle_prover.specs.Opening.{IsFailure};
-ghost use Rattle.circle_plane.specs.PeriodicColumns.{IsRefusedOn, IsTableOn, columns_of};
+ghost use Rattle.circle_plane.specs.PeriodicColumns.{IsRefusedOn, IsTableOn};
 ghost use Rattle.p3_circle.specs.Committing.{AreExtensions, AreValuesOfMatrix, HaveRowsForPoints};
 ghost use Rattle.p3_circle.specs.Committing.{commit_tests, evaluation_tests, lde_tests};
 ghost use Rattle.p3_circle.specs.Committing.{target_tests_at};
-ghost use Rattle.p3_circle.specs.Honest.{AreValuesOfBatch, FindsWitnesses, IsHonestBatch};
-ghost use Rattle.circle_prover.specs.Requesting.{opening_tests};
+ghost use Rattle.p3_circle.specs.Honest.{AreBatchValues, IsHonestBatch};
+ghost use Rattle.p3_circle.specs.Members.{FindsWitnessesBy, IsAcceptedBy, IsGivenBy, IsRefusedBy};
+ghost use Rattle.p3_circle.specs.Members.{IsUnopenedBy};
 ghost use Rattle.p3_circle.specs.Scheme.{AreCommittedTo, AreExtended, CanBeDegree, CanBeEvaluated};
-ghost use Rattle.p3_circle.specs.Scheme.{HaveCommittedHeights, IsCommitted, IsFirstFrom, IsFirstOf};
-ghost use Rattle.p3_circle.specs.Scheme.{IsGiven, IsStandardOfSize, says_memory};
-ghost use Rattle.p3_circle.specs.Scheme.{says_prover_memory};
-ghost use Rattle.circle_verifier.specs.Tests.{run_tests};
-ghost use Rattle.p3_circle.specs.Verdict.{IsAccepted, IsRefused};
+ghost use Rattle.p3_circle.specs.Scheme.{HaveCommittedHeights, IsCommitted, IsFirstOf};
+ghost use Rattle.p3_circle.specs.Scheme.{IsStandardOfSize, says_memory, says_prover_memory};
 ghost use Rattle.p3_circle.specs.Calls.{IsAnswer, IsOfMemoryIf};
 ghost use Rattle.circle_domain.specs.Domain.{log_size};
-ghost use Rattle.std.specs.Prelude.{◌≡◌, ◌+◌, ◌-◌, ◌^◌, min, IfErr, IfOk, OnOk};
+ghost use Rattle.std.specs.Prelude.{◌+◌, ◌-◌, ◌^◌, min, IfErr, IfOk, OnOk};
 
 use crate::pcs::CirclePcs;
-use circle_challenger::{CanObserve, CanSample, GrindingChallenger, RunChallenger};
+use circle_challenger::{CanObserve, CanSample, GrindingChallenger};
 use circle_commit::{
     CommitmentOpening, FriError, Mmcs, OpenedValues, OpeningRequest, Pcs, PeriodicLdeTable,
     RowMajorMatrix, UnivariateStarkPcs,
@@ -26,8 +23,8 @@ use circle_commit::{
 use circle_domain::CircleDomain;
 use circle_field::{ComplexExtendable, ExtensionField};
 use circle_plane::PeriodicError;
-use circle_prover::ProverError;
-use circle_relation::{CirclePcsProof, OverCircle, VerifierError};
+use circle_prover::{OpeningOver, ProverError};
+use circle_relation::{CirclePcsProof, VerifierError};
 use std::alloc::Global;
 
 impl<Val, EF, InputMmcs, FriMmcs, C> Pcs<EF, C> for CirclePcs<Val, InputMmcs, FriMmcs>
@@ -68,82 +65,55 @@ where
     ghost commit_refuses = { λ pcs batch. IsFirstOf
         (commit_tests Val.CIRCLE_TWO_ADICITY pcs.fri_params Val.eq Val.ops batch) };
 
-    ghost opens_at = { λ pcs. IsHonestBatch ⟦<EF as OverCircle<Val>>⟧.fields
+    ghost opens_at = { λ pcs. IsHonestBatch Val.ops Val.generators EF.ops EF.embed
         Val.CIRCLE_TWO_ADICITY pcs.fri_params };
 
-    ghost values_of = { λ pcs. AreValuesOfBatch ⟦<EF as OverCircle<Val>>⟧.fields };
+    ghost values_of = { λ pcs. AreBatchValues Val.ops Val.generators EF.ops EF.embed };
 
-    ghost finds_witnesses = { λ pcs. FindsWitnesses ⟦<EF as OverCircle<Val>>⟧.fields
-        ⟦<C as RunChallenger<Val, EF, FriMmcs::Commitment>>⟧.run pcs.fri_params
-        (FriMmcs.commits pcs.fri_params.mmcs) InputMmcs.matrices };
+    ghost finds_witnesses = { FindsWitnessesBy
+        ⟦<C as OpeningOver<Val, EF, InputMmcs, FriMmcs>>⟧.schemes };
 
     ghost open_asks = { λ pcs. HaveCommittedHeights InputMmcs.matrices };
 
-    ghost open_gives = { λ pcs. IsGiven pcs.fri_params InputMmcs.matrices
-        ⟦<EF as OverCircle<Val>>⟧.fields ⟦<C as RunChallenger<Val, EF, FriMmcs::Commitment>>⟧.run
-        (InputMmcs.commits pcs.mmcs) (InputMmcs.authenticates pcs.mmcs)
-        (FriMmcs.commits pcs.fri_params.mmcs) (FriMmcs.authenticates pcs.fri_params.mmcs)
-        Val.CIRCLE_TWO_ADICITY };
+    ghost open_gives = { IsGivenBy ⟦<C as OpeningOver<Val, EF, InputMmcs, FriMmcs>>⟧.schemes };
 
-    ghost open_refuses = { λ pcs requests old. IsFirstFrom (opening_tests InputMmcs.matrices
-        requests Val.CIRCLE_TWO_ADICITY pcs.fri_params ⟦<EF as OverCircle<Val>>⟧.fields EF.eq)
-        (IsFailure ⟦<EF as OverCircle<Val>>⟧.fields
-        ⟦<C as RunChallenger<Val, EF, FriMmcs::Commitment>>⟧.run pcs.fri_params
-        (FriMmcs.commits pcs.fri_params.mmcs) InputMmcs.matrices requests old) old };
+    ghost open_refuses = { IsUnopenedBy
+        ⟦<C as OpeningOver<Val, EF, InputMmcs, FriMmcs>>⟧.schemes };
 
-    ghost verify_accepts = { λ pcs claims proof. IsAccepted ⟦<EF as OverCircle<Val>>⟧.fields
-        ⟦<C as RunChallenger<Val, EF, FriMmcs::Commitment>>⟧.run InputMmcs.authenticates
-        FriMmcs.authenticates pcs.mmcs pcs.fri_params claims proof };
+    ghost verify_accepts = { IsAcceptedBy
+        ⟦<C as OpeningOver<Val, EF, InputMmcs, FriMmcs>>⟧.schemes };
 
-    ghost verify_refuses = { λ pcs claims proof old new. IsFirstFrom
-        (run_tests ⟦<EF as OverCircle<Val>>⟧.fields pcs.fri_params claims proof)
-        (IsRefused ⟦<EF as OverCircle<Val>>⟧.fields
-        ⟦<C as RunChallenger<Val, EF, FriMmcs::Commitment>>⟧.run InputMmcs.authenticates
-        FriMmcs.authenticates pcs.mmcs pcs.fri_params claims proof InputMmcs.is_memory
-        FriMmcs.is_memory old new) old new };
+    ghost verify_refuses = { λ pcs claims proof. IsRefusedBy
+        ⟦<C as OpeningOver<Val, EF, InputMmcs, FriMmcs>>⟧.schemes pcs claims proof
+        InputMmcs.is_memory FriMmcs.is_memory };
 
     ghost is_memory = { says_memory };
 
     ghost is_prover_memory = { says_prover_memory };
 
-    ghost honest_commit = { λ pcs. honest-commit ⟦<EF as OverCircle<Val>>⟧.fields
-        Val.Operations.laws EF.Operations.laws EF.embedding Val.eq Val.eq_law EF.eq EF.eq_law
-        Val.at_most_62 Val.generators_law pcs.fri_params };
+    ghost honest_commit = { λ pcs.
+        honest-commit Val.ops Val.eq Val.eq_law Val.CIRCLE_TWO_ADICITY pcs.fri_params };
 
-    ghost honest_open = { λ pcs. honest-open ⟦<EF as OverCircle<Val>>⟧.fields
-        Val.Operations.laws EF.Operations.laws EF.embedding Val.eq Val.eq_law EF.eq EF.eq_law
-        Val.at_most_62 Val.generators_law pcs.fri_params
-        InputMmcs.matrices (InputMmcs.commits pcs.mmcs)
-        ⟦<C as RunChallenger<Val, EF, FriMmcs::Commitment>>⟧.run
+    ghost honest_open = { λ pcs. honest-open _ Val.Operations.laws EF.Operations.laws EF.embedding
+        Val.eq Val.eq_law EF.eq EF.eq_law Val.at_most_62 Val.generators_law pcs.fri_params
+        InputMmcs.matrices (InputMmcs.commits pcs.mmcs) _
         (FriMmcs.commits pcs.fri_params.mmcs) };
 
-    ghost each_point = { λ pcs. each-point ⟦<EF as OverCircle<Val>>⟧.fields Val.CIRCLE_TWO_ADICITY
-        pcs.fri_params InputMmcs.matrices (InputMmcs.commits pcs.mmcs)
-        ⟦<C as RunChallenger<Val, EF, FriMmcs::Commitment>>⟧.run
-        (InputMmcs.authenticates pcs.mmcs) (FriMmcs.commits pcs.fri_params.mmcs)
-        (FriMmcs.authenticates pcs.fri_params.mmcs) };
+    ghost each_point = { λ pcs. each-point };
 
-    ghost true_values = { λ pcs. true-values _ ⟦<EF as OverCircle<Val>>⟧.fields
-        Val.Operations.laws EF.Operations.laws EF.embedding Val.CIRCLE_TWO_ADICITY
-        Val.generators_law pcs.fri_params InputMmcs.matrices (InputMmcs.commits pcs.mmcs)
-        ⟦<C as RunChallenger<Val, EF, FriMmcs::Commitment>>⟧.run
-        (InputMmcs.authenticates pcs.mmcs) (FriMmcs.commits pcs.fri_params.mmcs)
-        (FriMmcs.authenticates pcs.fri_params.mmcs) };
+    ghost true_values = { λ pcs. true-values _ _ Val.Operations.laws EF.Operations.laws EF.embedding
+        _ Val.generators_law pcs.fri_params InputMmcs.matrices (InputMmcs.commits pcs.mmcs) _ _ _
+        _ };
 
-    ghost complete = { λ pcs. opening-accepted ⟦<EF as OverCircle<Val>>⟧.fields
-        Val.Operations.laws EF.Operations.laws EF.embedding Val.eq Val.eq_law EF.eq EF.eq_law
-        Val.at_most_62 Val.generators_law pcs.fri_params
-        InputMmcs.matrices (InputMmcs.commits pcs.mmcs)
-        ⟦<C as RunChallenger<Val, EF, FriMmcs::Commitment>>⟧.run C.bits_below
-        InputMmcs.authenticates FriMmcs.authenticates pcs.mmcs
-        (FriMmcs.commits pcs.fri_params.mmcs) };
+    ghost complete = { λ pcs. opening-accepted _ Val.Operations.laws EF.Operations.laws EF.embedding
+        Val.eq Val.eq_law EF.eq EF.eq_law Val.at_most_62 Val.generators_law pcs.fri_params
+        InputMmcs.matrices (InputMmcs.commits pcs.mmcs) _ C.bits_below InputMmcs.authenticates
+        FriMmcs.authenticates pcs.mmcs (FriMmcs.commits pcs.fri_params.mmcs) };
 
     ghost kept_asks = { λ pcs. kept-powers Val.ops Val.generators pcs.fri_params.log_blowup
         (InputMmcs.commits pcs.mmcs) InputMmcs.matrices };
 
-    ghost one_state = { λ pcs claims proof. one-state ⟦<EF as OverCircle<Val>>⟧.fields
-        ⟦<C as RunChallenger<Val, EF, FriMmcs::Commitment>>⟧.run InputMmcs.authenticates
-        FriMmcs.authenticates pcs.mmcs pcs.fri_params claims proof };
+    ghost one_state = { λ pcs claims proof. one-state };
 
     fn natural_domain_for_degree(&self, degree: usize) -> CircleDomain<Val> {
         self.natural_domain_for_degree(degree)
@@ -155,10 +125,11 @@ where
         evaluations: Vec<(CircleDomain<Val>, RowMajorMatrix<Val>)>,
     ) -> Result<(InputMmcs::Commitment, InputMmcs::ProverData), ProverError>
         requires { HaveRowsForPoints evaluations.items }
-        ensures committed { let p = ⟦<Self as Pcs<EF, C>>⟧ in IfOk result (λ r.
-            p.commits self.now evaluations.items r.0 r.1) }
-        ensures refused { let p = ⟦<Self as Pcs<EF, C>>⟧ in IfErr result
-            (p.commit_refuses self.now evaluations.items) }
+        ensures committed { let commits = InputMmcs.commits self.now.mmcs in IfOk result
+            (λ r. IsCommitted Val.ops Val.generators self.now.fri_params.log_blowup commits
+            evaluations.items r.0 (InputMmcs.matrices r.1)) }
+        ensures refused { IfErr result (IsFirstOf (commit_tests Val.CIRCLE_TWO_ADICITY
+            self.now.fri_params Val.eq Val.ops evaluations.items)) }
     {
         self.commit(alloc, evaluations)
     }

@@ -10,13 +10,13 @@ use circle_domain::CircleDomain;
 use circle_field::{ComplexExtendable, ExtensionField, Field};
 pub use circle_folding::{claim_binds, quotient_binds};
 use circle_plane::Point;
-use circle_relation::{CirclePcsProof, OverCircle};
+use circle_relation::CirclePcsProof;
 use circle_transcript::CirclePcsShape;
 use std::hash::Hash;
 
 /// Where the final polynomial is a constant, the relation holds of the claims and the proof, under
-/// any challenges, exactly where that of one final value does: each query's chain ends in that
-/// value. Takes no memory.
+/// any challenges and whatever field `EF` extends, exactly where that of one final value does: each
+/// query's chain ends in that value. Takes no memory.
 pub fn constant_ends<
     Val: ComplexExtendable,
     EF: ExtensionField<Val>,
@@ -28,7 +28,7 @@ pub fn constant_ends<
     claims: &[CommitmentOpening<EF, InputMmcs::Commitment, CircleDomain<Val>>],
     proof: &CirclePcsProof<Val, EF, InputMmcs, FriMmcs, Val>,
 )
-    ensures { AreSameOfConstants ⟦<EF as OverCircle<Val>>⟧.fields params.now claims.now proof.now
+    ensures { AreSameOfConstants EF.ops params.now claims.now proof.now
         (InputMmcs.authenticates mmcs.now) (FriMmcs.authenticates params.now.mmcs) }
 {
     let _mmcs = mmcs;
@@ -50,8 +50,8 @@ pub fn constant_seeds<M>(degree: usize, params: &FriParameters<M>, shape: &Circl
 
 /// Equal points hash equally. Takes no memory.
 pub fn equal_points_hash_equally<F: Field>(a: Point<F>, b: Point<F>)
-    ensures { IsTrue (⟦<Point<F> as PartialEq>⟧.eq a b)
-        → ⟦<Point<F> as Hash>⟧.hash_input a ≡ ⟦<Point<F> as Hash>⟧.hash_input b }
+    ensures { let p = ⟦<Point<F> as Hash>⟧ in
+        IsTrue (p.eq a b) → p.hash_input a ≡ p.hash_input b }
 {
     let _points = (a, b);
 }

@@ -15,7 +15,8 @@ ghost use Rattle.circle_relation.specs.declared.error.ProverError.TheVariants.{M
 ghost use Rattle.p3_circle.specs.Scheme.{CanBeDegree, HaveCommittedHeights, IsStandardOfSize};
 ghost use Rattle.circle_prover.specs.Requesting.{RefusesBefore};
 ghost use Rattle.circle_verifier.specs.Tests.{IsFirstRefusal};
-ghost use Rattle.p3_circle.specs.Calls.{IsAnswer, IsOfHighDegreeIf, ReadsOwnRowsIf, scheme_tests};
+ghost use Rattle.p3_circle.specs.Calls.{AreTrueAnswers, IsAnswer, IsOfHighDegreeIf};
+ghost use Rattle.p3_circle.specs.Calls.{ReadsOwnRowsIf, scheme_tests};
 
 use crate::commit::{evaluations_on, extensions, validate_evaluations};
 use circle_challenger::{CanObserve, CanSample, GrindingChallenger};
@@ -191,16 +192,16 @@ impl<Val: ComplexExtendable, InputMmcs: Mmcs<Val>, FriMmcs> CirclePcs<Val, Input
             InputMmcs.matrices self.now.fri_params requests.entry.items (openings r.0.items)) }
         ensures opened { IfOk result (IsAnswer (⟦<Self as Pcs<EF, C>>⟧.open_gives self.now
             requests.entry.items) (C.state challenger.old) (C.state challenger.new)) }
-        ensures words { let k = ⟦<EF as OverCircle<Val>>⟧.fields in IfOk result (λ r. ReadsOwnRowsIf
-            k InputMmcs.matrices self.now.fri_params requests.entry.items (openings r.0.items)) }
+        ensures words { IfOk result (λ r. ReadsOwnRowsIf Val.ops Val.generators InputMmcs.matrices
+            self.now.fri_params requests.entry.items (openings r.0.items)) }
         ensures failure { let p = ⟦<Self as Pcs<EF, C>>⟧ in IfErr result (p.open_refuses self.now
             requests.entry.items (C.state challenger.old) (C.state challenger.new)) }
         ensures honest { let p = ⟦<Self as Statements<EF, C>>⟧ in IfErr result (λ e. p.is_honest
             self.now requests.entry.items (C.state challenger.old) → e ≡ OutOfMemory) }
-        ensures degree { let k = ⟦<EF as OverCircle<Val>>⟧.fields in IfErr result (IsOfHighDegreeIf k
-            InputMmcs.matrices self.now.fri_params requests.entry.items) }
-        ensures only { let p = ⟦<Self as Statements<EF, C>>⟧ in IfOk result (λ r. p.are_true
-            self.now requests.entry.items (openings r.0.items)) }
+        ensures degree { IfErr result (IsOfHighDegreeIf Val.ops Val.generators InputMmcs.matrices
+            self.now.fri_params requests.entry.items) }
+        ensures only { IfOk result (λ r. AreTrueAnswers Val.Operations Val.generators EF.ops
+            EF.embed InputMmcs.Mmcs self.now requests.entry.items (openings r.0.items)) }
         ensures accepted { IfOk result (IsAnswer (⟦<Self as Statements<EF, C>>⟧.are_accepted self.now
             requests.entry.items) (C.state challenger.old) (C.state challenger.new)) }
     {

@@ -1,17 +1,21 @@
 //! A whole run over the scheme.
 ghost use Rattle.std.specs.Prelude.{◌≡◌, All, IfErr, IfOk, OnOk};
 ghost use Rattle.circle_commit.specs.Pcs.{openings};
-ghost use Rattle.circle_round_trip.specs.RoundTrip.{HasPoints};
+ghost use Rattle.circle_round_trip.specs.RoundTrip.{AreHonestUnder, AreValuesOf, HasPoints};
+ghost use Rattle.circle_round_trip.specs.RoundTrip.{IsOfMemory, IsReasonUnder};
 ghost use Rattle.p3_circle.specs.Committing.{HaveRowsForPoints};
+ghost use Rattle.p3_circle.specs.Honest.{AreBatchValues};
+ghost use Rattle.p3_circle.specs.Scheme.{says_memory, says_prover_memory};
+ghost use Rattle.p3_circle.specs.SchemeLaws.HonestOpenings.{points_in};
 
 use crate::pcs::CirclePcs;
 use circle_challenger::{CanObserve, CanSample, GrindingChallenger};
-use circle_commit::{Mmcs, OpenedValues, RowMajorMatrix};
+use circle_commit::{Mmcs, OpenedValues, Pcs, RowMajorMatrix};
 use circle_domain::CircleDomain;
 use circle_field::{ComplexExtendable, ExtensionField};
 use circle_prover::ProverError;
 use circle_relation::VerifierError;
-use circle_round_trip::{BatchAtPoints, RoundTripError, RoundTrips, round_trip};
+use circle_round_trip::{BatchAtPoints, RoundTripError, round_trip};
 use std::alloc::Global;
 
 impl<Val: ComplexExtendable, InputMmcs: Mmcs<Val>, FriMmcs> CirclePcs<Val, InputMmcs, FriMmcs> {
@@ -41,13 +45,13 @@ impl<Val: ComplexExtendable, InputMmcs: Mmcs<Val>, FriMmcs> CirclePcs<Val, Input
         requires rows { All (λ b. HaveRowsForPoints b.evaluations.items) batches.items }
         requires points { All HasPoints batches.items }
         requires same { C.state prover.old ≡ C.state verifier.old }
-        ensures accepted { let p = ⟦<Self as RoundTrips<EF, C>>⟧ in IfErr result (λ e.
-            p.are_honest_batches self.now batches.items (C.state prover.old) → p.is_of_memory e) }
-        ensures values { let p = ⟦<Self as RoundTrips<EF, C>>⟧ in IfOk result (λ v.
-            p.are_values_of self.now batches.items (openings v.items)) }
+        ensures accepted { IfErr result (λ e. AreHonestUnder ⟦<Self as Pcs<EF, C>>⟧ self.now
+            batches.items (C.state prover.old) → IsOfMemory says_prover_memory says_memory e) }
+        ensures values { IfOk result (λ v. AreValuesOf (AreBatchValues Val.ops Val.generators EF.ops
+            EF.embed) batches.items (openings v.items)) }
         ensures states { OnOk result (C.state prover.new ≡ C.state verifier.new) }
-        ensures reason { let s = C.state in IfErr result (⟦<Self as RoundTrips<EF, C>>⟧.is_reason
-            self.now batches.items (s prover.old) (s prover.new) (s verifier.new)) }
+        ensures reason { let s = C.state in IfErr result (IsReasonUnder ⟦<Self as Pcs<EF, C>>⟧
+            self.now batches.items points_in (s prover.old) (s prover.new) (s verifier.new)) }
     {
         round_trip::<EF, C, Self>(alloc, self, batches, prover, verifier)
     }

@@ -16,7 +16,8 @@ use Rattle.circle_commit.specs.declared.pcs.OpeningRequest.{OpeningRequest}
 use Rattle.circle_domain.specs.Domain.{log_size, shift_of}
 use Rattle.circle_domain.specs.declared.domain.CircleDomain.{CircleDomain}
 use Rattle.circle_field.specs.declared.field.Operations.{Ghosts}
-use Rattle.circle_field.specs.Circle.{times}
+use Rattle.circle_field.specs.Circle.{Coordinates, times}
+use Rattle.circle_field.specs.Field.{FieldOps}
 use Rattle.circle_field.specs.CircleGroup.{same_coordinates}
 use Rattle.circle_codewords.specs.Requests.{AreFit, log_of}
 use Rattle.circle_relation.specs.declared.error.ProverError.{ProverError}
@@ -93,48 +94,54 @@ abbrev pub IsKeptHonestly : {F E M D Com : Type 0} → Ghosts F → Fields F E �
 IsKeptHonestly {F = F} {D = D} g k two p kept Commits =
     IsHonest {Dom = CircleDomain F g} {M = RowMajorMatrix F}
     (λ batch commitment (d : D). IsCommitted k.field k.gen p.log_blowup Commits batch commitment
-    (kept d)) (IsHonestBatch k two p)
+    (kept d)) (IsHonestBatch k.field k.gen k.extension k.embed two p)
 
-module _ {F E M : Type 0} {g : Ghosts F} (k : Fields F E) (eq : F → F → Bool) (eq_law : (a b : F) →
-    (eq a b ≡ true) ↔ (a ≡ b)) (same : E → E → Bool) (law : (a b : E) → (same a b ≡ true) ↔ (a ≡ b))
-    (two : ℕ) (small : two ≤ 62) (p : FriParameters M) where
+module _ {F E M : Type 0} {g : Ghosts F} (f : FieldOps F) (gen : ℕ → Coordinates F)
+    (l : FieldOps E) (embed : F → E) (eq : F → F → Bool) (eq_law : (a b : F) →
+    (eq a b ≡ true) ↔ (a ≡ b)) (two : ℕ) (p : FriParameters M) where
   -- rows on a domain
   domain-passes : (x : CircleDomain F g × RowMajorMatrix F) (points : List E) →
-      CanBeOpenedAt k two p x points →
-      answer {A = Unit {0}} (domain_tests two p eq k.field x.0) (tt {0}) ≡ Ok (tt {0})
+      CanBeOpenedAt f gen l embed two p x points →
+      answer {A = Unit {0}} (domain_tests two p eq f x.0) (tt {0}) ≡ Ok (tt {0})
   domain-passes x points can =
       let d = x.0 in
       let large = can.large in
-      let turned = times k.field (2 ^ log_size d) (shift_of d) in
-      let whole : is_degenerate eq k.field d ≡ false =
+      let turned = times f (2 ^ log_size d) (shift_of d) in
+      let whole : is_degenerate eq f d ≡ false =
       neither _ _ (ne_eqb (log_size d) 0 (λ e. omega (arith, e, large)))
-      (never (eq turned.x k.field.one && eq turned.y k.field.zero)
-      (λ yes. let both = and-each (eq turned.x k.field.one) (eq turned.y k.field.zero) yes in
+      (never (eq turned.x f.one && eq turned.y f.zero)
+      (λ yes. let both = and-each (eq turned.x f.one) (eq turned.y f.zero) yes in
       can.genuine.1
-      (same_coordinates ((eq_law turned.x k.field.one).0 both.0)
-      ((eq_law turned.y k.field.zero).0 both.1)))) in
+      (same_coordinates ((eq_law turned.x f.one).0 both.0)
+      ((eq_law turned.y f.zero).0 both.1)))) in
       skipped _ _ (tt {0}) (le-ltb (log_size d) (2 + p.log_final_poly_len) (omega (arith, large)))
       ∙ skipped _ _ (tt {0}) (lt-leb two (log_size d + p.log_blowup) can.in_group)
       ∙ skipped _ _ (tt {0}) whole ∙ answer-none (tt {0})
 
   rows-pass : (batch : List (CircleDomain F g × RowMajorMatrix F)) (points : List (List E)) →
-      AllZip (CanBeOpenedAt k two p) batch points →
-      answer (evaluation_tests two p eq k.field batch) (tt {0}) ≡ Ok (tt {0})
+      AllZip (CanBeOpenedAt f gen l embed two p) batch points →
+      answer (evaluation_tests two p eq f batch) (tt {0}) ≡ Ok (tt {0})
   rows-pass [] [] can = answer-none (tt {0})
   rows-pass [] (t ∷ points) can = absurd can
   rows-pass (x ∷ batch) [] can = absurd can
   rows-pass (x ∷ batch) (t ∷ points) can =
-      pass-more (λ (e : CircleDomain F g × RowMajorMatrix F). domain_tests two p eq k.field e.0) x
+      pass-more (λ (e : CircleDomain F g × RowMajorMatrix F). domain_tests two p eq f e.0) x
       batch (domain-passes x t can.0) (rows-pass batch points can.1)
 
   -- a batch that is to be committed to
   pub batch-passes : (batch : List (CircleDomain F g × RowMajorMatrix F)) (points : List (List E)) →
-      IsHonestBatch k two p batch points → answer (commit_tests two p eq k.field batch) (tt {0})
-      ≡ Ok (tt {0})
+      IsHonestBatch f gen l embed two p batch points →
+      answer (commit_tests two p eq f batch) (tt {0}) ≡ Ok (tt {0})
   batch-passes batch points honest =
       let some = honest.some in
       skipped _ _ (tt {0}) (ne_eqb (length batch) 0 (λ e. omega (arith, e, some)))
       ∙ rows-pass batch points honest.rows
+
+module _ {F E M : Type 0} {g : Ghosts F} (k : Fields F E) (same : E → E → Bool)
+    (law : (a b : E) → (same a b ≡ true) ↔ (a ≡ b)) (two : ℕ) (small : two ≤ 62)
+    (p : FriParameters M) where
+  abbrev CanOpen : CircleDomain F g × RowMajorMatrix F → List E → Type 0
+  CanOpen = CanBeOpenedAt k.field k.gen k.extension k.embed two p
 
   -- the height of what is committed to
   pub log-extended : (x : CircleDomain F g × RowMajorMatrix F) (m : RowMajorMatrix F) →
@@ -144,7 +151,7 @@ module _ {F E M : Type 0} {g : Ghosts F} (k : Fields F E) (eq : F → F → Bool
       ∙ log_of-power (log_size x.0 + p.log_blowup) (omega (arith, fits, small))
 
   height-passes : (x : CircleDomain F g × RowMajorMatrix F) (m : RowMajorMatrix F)
-      (points : List E) → CanBeOpenedAt k two p x points →
+      (points : List E) → CanOpen x points →
       IsExtension k.field k.gen p.log_blowup x.0 x.1 m →
       answer {A = Unit {0}} (height_tests two p (height_of m)) (tt {0}) ≡ Ok (tt {0})
   height-passes x m points can extension =
@@ -154,7 +161,7 @@ module _ {F E M : Type 0} {g : Ghosts F} (k : Fields F E) (eq : F → F → Bool
 
   heights-pass : (batch : List (CircleDomain F g × RowMajorMatrix F)) (ms : List (RowMajorMatrix F))
       (points : List (List E)) → AreExtensions k.field k.gen p.log_blowup batch ms →
-      AllZip (CanBeOpenedAt k two p) batch points →
+      AllZip CanOpen batch points →
       answer (matrix_tests two p ms) (tt {0}) ≡ Ok (tt {0})
   heights-pass [] [] points made can = answer-none (tt {0})
   heights-pass [] (m ∷ ms) points made can = absurd made
@@ -166,7 +173,7 @@ module _ {F E M : Type 0} {g : Ghosts F} (k : Fields F E) (eq : F → F → Bool
 
   -- its points are not on its domain
   apart-none : (x : CircleDomain F g × RowMajorMatrix F) (m : RowMajorMatrix F) (points : List E) →
-      CanBeOpenedAt k two p x points → IsExtension k.field k.gen p.log_blowup x.0 x.1 m →
+      CanOpen x points → IsExtension k.field k.gen p.log_blowup x.0 x.1 m →
       some_on_domain k same m points ≡ false
   apart-none x m points can extension =
       let domain = λ (h : ℕ). points_of_height k.field k.gen h in
@@ -180,7 +187,7 @@ module _ {F E M : Type 0} {g : Ghosts F} (k : Fields F E) (eq : F → F → Bool
       never (is_at k same t q) (λ yes. can.off i d lt j e lt' ((told k same law t q).0 yes)))))
 
   vectors-finite : (batch : List (CircleDomain F g × RowMajorMatrix F)) (vs : List (Vec E Global)) →
-      AllZip (CanBeOpenedAt k two p) batch (map (λ v. v.items) vs) →
+      AllZip CanOpen batch (map (λ v. v.items) vs) →
       AllByRecursion (λ v. list_any (is_at_infinity same k.extension) v.items ≡ false) vs
   vectors-finite [] [] can = tt
   vectors-finite [] (v ∷ vs) can = absurd can
@@ -191,7 +198,7 @@ module _ {F E M : Type 0} {g : Ghosts F} (k : Fields F E) (eq : F → F → Bool
   vectors-apart : (batch : List (CircleDomain F g × RowMajorMatrix F))
       (ms : List (RowMajorMatrix F)) (vs : List (Vec E Global)) →
       AreExtensions k.field k.gen p.log_blowup batch ms →
-      AllZip (CanBeOpenedAt k two p) batch (map (λ v. v.items) vs) →
+      AllZip CanOpen batch (map (λ v. v.items) vs) →
       AllByRecursion (λ asked. some_on_domain k same asked.0 asked.1.items ≡ false) (zip ms vs)
   vectors-apart [] [] [] made can = tt
   vectors-apart [] [] (v ∷ vs) made can = absurd can
@@ -203,7 +210,7 @@ module _ {F E M : Type 0} {g : Ghosts F} (k : Fields F E) (eq : F → F → Bool
 
   counted : (batch : List (CircleDomain F g × RowMajorMatrix F)) (ms : List (RowMajorMatrix F))
       (vs : List (Vec E Global)) → AreExtensions k.field k.gen p.log_blowup batch ms →
-      AllZip (CanBeOpenedAt k two p) batch (map (λ v. v.items) vs) → length vs ≡ length ms
+      AllZip CanOpen batch (map (λ v. v.items) vs) → length vs ≡ length ms
   counted [] [] [] made can = refl
   counted [] [] (v ∷ vs) made can = absurd can
   counted [] (m ∷ ms) vs made can = absurd made

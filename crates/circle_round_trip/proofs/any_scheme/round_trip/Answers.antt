@@ -2,7 +2,7 @@ use Rattle.std.proofs.Common.{◌∙◌, ap, sym, subst}
 use Rattle.circle_commit.specs.Pcs.{openings}
 use Rattle.circle_commit.specs.DotProduct.{pairwise}
 use Rattle.circle_commit.specs.Claims.{batch_claimed}
-use Rattle.circle_round_trip.specs.RoundTrip.{AreHonestBatches, IsOfMemory, IsReason}
+use Rattle.circle_round_trip.specs.RoundTrip.{AreHonestUnder, IsOfMemory, IsReasonUnder}
 use Rattle.circle_round_trip.proofs.Batches.{are-answered, are-kept, are-requests, are-values}
 use Rattle.circle_round_trip.proofs.Batches.{asks-for, handed, have-answers, honest-requests}
 use Rattle.circle_round_trip.proofs.Batches.{of-memory, why-uncommitted}
@@ -14,8 +14,7 @@ returns-in_err-committed-clause-accepted g c =
     let batches = c.args.batches.items in
     let state = g.C.ChallengerState.state c.args.prover.now in
     handed
-    (λ e. AreHonestBatches (g.P.Pcs.commits pcs) (g.P.Pcs.opens_at pcs)
-    (g.P.Pcs.finds_witnesses pcs) batches state →
+    (λ e. AreHonestUnder g.P.Pcs pcs batches state →
     IsOfMemory g.P.Pcs.is_prover_memory g.P.Pcs.is_memory e)
     c.from_residual.result c.in_err-committed.field-0.0 c.from_residual.ensures.1
     (λ honest. of-memory g.P.Pcs.is_prover_memory g.P.Pcs.is_memory (g.P.Pcs.opens_at pcs)
@@ -27,9 +26,8 @@ returns-in_err-committed-clause-reason g c =
     let pcs = c.args.pcs.now in
     let s = g.C.ChallengerState.state c.args.prover.now in
     handed
-    (IsReason g.P.Domain.PolynomialSpace.size (g.P.Pcs.commits pcs) (g.P.Pcs.commit_refuses pcs)
-    (g.P.Pcs.open_gives pcs) (g.P.Pcs.open_refuses pcs) (g.P.Pcs.verify_refuses pcs)
-    c.args.batches.items s s (g.C.ChallengerState.state c.args.verifier.now))
+    (IsReasonUnder g.P.Pcs pcs c.args.batches.items g.P.Domain.PolynomialSpace.size s s
+    (g.C.ChallengerState.state c.args.verifier.now))
     c.from_residual.result c.in_err-committed.field-0.0 c.from_residual.ensures.1
     (why-uncommitted g.P.Domain.PolynomialSpace.size (g.P.Pcs.commits pcs)
     (g.P.Pcs.commit_refuses pcs) (g.P.Pcs.open_gives pcs) (g.P.Pcs.open_refuses pcs)
