@@ -5,6 +5,7 @@ ghost use Rattle.circle_field.specs.Circle.{IsOnCircle, at};
 ghost use Rattle.circle_field.specs.Mersenne31.{operations};
 ghost use Rattle.serde_json.specs.View.{view};
 ghost use Rattle.circle_commit.specs.RowMajorMatrix.{rows as matrix_rows, width_of, height_of};
+ghost use Rattle.circle_plane.specs.CfftView.{seen_rows};
 ghost use Rattle.circle_commands.specs.Json.{rows_written};
 ghost use Rattle.circle_commands.specs.Named.{values_name};
 ghost use Rattle.circle_commands.specs.Rows.{lists, IsRectangular, row_length};
@@ -126,8 +127,7 @@ pub fn values_at_points(alloc: Global, input: &Input) -> Result<Values, Refusal>
         ↔ (HasFittingSize input.now × HasPoint input.now × (¬ HasRectangle input.now)) }
     ensures bad_height { IsErrOf result Refusal.BadHeight ↔ (HasFittingSize input.now
         × HasPoint input.now × HasRectangle input.now × (¬ HasFittingHeight input.now)) }
-    ensures rows { IfOk result (λ values.
-        ⟦<Values as Matrix<Mersenne31>>⟧.rows values ≡ values_of input.now) }
+    ensures rows { IfOk result (λ values. seen_rows matrix_rows values ≡ values_of input.now) }
 {
     if input.log_n == 0 {
         return Err(Refusal::DomainTooSmall);

@@ -30,7 +30,8 @@ OfEachColumn table P = (c : ℕ) → c < length table → P (slice_index_or (col
 module _ {F E : Type 0} {g : _} (two_adicity : ℕ) (k : FieldOps F) (gen : ℕ → Coordinates F)
     (l : FieldOps E) (embed : F → E) (trace : CircleDomain F g) (t : E) where
   -- a column that repeats over the trace has a value at the coordinate t: it has at most one entry,
-  -- or as many as a standard domain of at most the trace's size, which t is clear of
+  -- or the trace is standard, the entries are a power of two and at most as many as its points, and
+  -- t is finite and clear of the period
   abbrev pub HasValueAt : List F → Type 0
   HasValueAt column = 2 ≤ length column →
       IsStandardDomain two_adicity gen trace
