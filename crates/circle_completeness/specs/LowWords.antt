@@ -53,7 +53,8 @@ module _ {F E : Type 0} (k : Fields F E) (two_adicity blowup : ℕ) (matrices : 
 module _ {F E : Type 0} (k : Fields F E) (blowup : ℕ) (alpha : E) where
   -- so are the codewords of the heights of whatever matrices
   pub record AreHeightWordsLow : Type 0 where
-    pub split : (matrices : List (Committed F E)) → ReducedWordsSplit k k.two_adicity blowup matrices
+    pub split : (matrices : List (Committed F E)) →
+        ReducedWordsSplit k k.two_adicity blowup matrices
         alpha
     pub corrected : (matrices : List (Committed F E)) → CorrectedWordsAreLow k k.two_adicity blowup
         matrices alpha
@@ -62,7 +63,9 @@ module _ {F E : Type 0} (k : Fields F E) (blowup : ℕ) (alpha : E) where
   pub record IsLastWordLow (final : ℕ) (bivariate : E) (betas : List E) : Type 0 where
     pub folds : (matrices : List (Committed F E)) → FirstFoldsAreLow k k.two_adicity blowup matrices
         alpha bivariate
-    pub rounds : (matrices : List (Committed F E)) → RoundWordsAreLow k k.two_adicity blowup matrices
+    pub rounds : (matrices : List (Committed F E)) →
+        RoundWordsAreLow k k.two_adicity blowup matrices
         alpha bivariate betas
-    pub last : (matrices : List (Committed F E)) → LastWordIsLow k k.two_adicity blowup matrices final
+    pub last : (matrices : List (Committed F E)) →
+        LastWordIsLow k k.two_adicity blowup matrices final
         alpha bivariate betas

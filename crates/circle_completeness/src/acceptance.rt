@@ -24,10 +24,7 @@ pub fn openings_are_accepted<
     InputMmcs: Mmcs<Val>,
     FriMmcs: Mmcs<EF>,
     C,
->(
-    requests: &OpenableRequests<Val, EF, InputMmcs, FriMmcs>,
-    challenger: &C,
-)
+>(requests: &OpenableRequests<Val, EF, InputMmcs, FriMmcs>, challenger: &C)
 where
     C: CanSample<Val> + GrindingChallenger<Val> + CanObserve<FriMmcs::Commitment>,
     ensures { AcceptsOpeningsOf requests.now

@@ -59,10 +59,7 @@ pub fn honest_openings_end_low<
     InputMmcs: Mmcs<Val>,
     FriMmcs: Mmcs<EF>,
     C,
->(
-    requests: &OpenableRequests<Val, EF, InputMmcs, FriMmcs>,
-    challenger: &C,
-)
+>(requests: &OpenableRequests<Val, EF, InputMmcs, FriMmcs>, challenger: &C)
 where
     C: CanSample<Val> + GrindingChallenger<Val> + CanObserve<FriMmcs::Commitment>,
     ensures ends { EndLow requests.now }

@@ -58,7 +58,9 @@ module _ {F E I W IC ID IP IE WC WD WP WE : Type 0} {over inputs ic ip ie words 
     pub values-count : (batches : List (Vec (Vec (Vec E Global) Global) Global)) →
         AreAnsweredBy o (openings batches) → length batches ≡ length o.requests.now
     values-count batches answered =
-        sym (length-map batches (λ (v : Vec (Vec (Vec E Global) Global) Global). opened_rows v.items))
+        sym
+        (length-map batches
+        (λ (v : Vec (Vec (Vec E Global) Global) Global). opened_rows v.items))
         ∙ sym (as-long (AreAnswers inputs.matrices over.fields o.params.now.log_blowup)
         o.requests.now (openings batches) answered)
 

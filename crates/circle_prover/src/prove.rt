@@ -14,8 +14,8 @@ ghost use Rattle.circle_prover.specs.Words.{taken_in};
 use crate::claims::{opened_claims, opened_widths};
 use crate::foldable::FoldableMatrices;
 use crate::heights::greatest_height;
-use crate::openings::{open_rounds, open_rows, open_siblings};
 use crate::openable::OpenableRequests;
+use crate::openings::{open_rounds, open_rows, open_siblings};
 use crate::run::CommittedWords;
 use circle_challenger::{CanObserve, CanSample, GrindingChallenger, RunChallenger};
 use circle_commit::{

@@ -205,14 +205,7 @@ impl<F: ComplexExtendable, EF: ExtensionField<F>, M: Mmcs<EF>> FoldableMatrices<
         let mut rounds = no_rounds(alloc, num_rounds)?;
         let mut word = first;
         for i in 0..num_rounds {
-            let round = self.play_round(
-                alloc,
-                transcript,
-                log_height - i,
-                word,
-                heights,
-                folded,
-            )?;
+            let round = self.play_round(alloc, transcript, log_height - i, word, heights, folded)?;
             word = add_round(&mut rounds, round)?;
         }
         Ok((rounds, word))

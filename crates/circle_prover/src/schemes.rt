@@ -7,9 +7,12 @@ use circle_transcript::TranscriptMoves;
 
 /// The fields, the challenger, the scheme of the batches and that of the codewords, for contracts
 /// alone, where there are no [`OpenableRequests`](crate::OpenableRequests) that carry them.
-pub trait OpeningOver<Val: Copy, EF: OverCircle<Val>, InputMmcs: Mmcs<Val>, FriMmcs: Mmcs<EF>>:
-    TranscriptMoves<Val, EF, FriMmcs::Commitment>
-{
+pub trait OpeningOver<
+    Val: Copy,
+    EF: OverCircle<Val>,
+    InputMmcs: Mmcs<Val>,
+    FriMmcs: Mmcs<EF>,
+>: TranscriptMoves<Val, EF, FriMmcs::Commitment> {
     ghost schemes: { Schemes Self Self.State Val EF InputMmcs InputMmcs.Commitment
         InputMmcs.ProverData InputMmcs.MultiProof FriMmcs FriMmcs.Commitment FriMmcs.ProverData
         FriMmcs.MultiProof };

@@ -27,9 +27,7 @@ use circle_commit::{
 use circle_domain::CircleDomain;
 use circle_field::{ComplexExtendable, ExtensionField, Field};
 use circle_plane::{PeriodicError, build_periodic_lde_table_circle};
-use circle_prover::{
-    ProverError, log_min_trace_height, open_requests, validate_heights, validate_requests,
-};
+use circle_prover::{OpenableRequests, ProverError, log_min_trace_height, validate_heights};
 use circle_relation::{CirclePcsProof, OverCircle, VerifierError};
 use circle_verifier::TestedRun;
 use std::alloc::Global;
@@ -205,8 +203,12 @@ impl<Val: ComplexExtendable, InputMmcs: Mmcs<Val>, FriMmcs> CirclePcs<Val, Input
         ensures accepted { IfOk result (IsAnswer (⟦<Self as Statements<EF, C>>⟧.are_accepted self.now
             requests.entry.items) (C.state challenger.old) (C.state challenger.new)) }
     {
-        validate_requests::<Val, EF, InputMmcs, FriMmcs>(&self.mmcs, &self.fri_params, &requests)?;
-        open_requests(alloc, &self.mmcs, &self.fri_params, &requests, challenger)
+        let openable = OpenableRequests::<Val, EF, InputMmcs, FriMmcs>::new(
+            &self.mmcs,
+            &self.fri_params,
+            &requests,
+        )?;
+        openable.open(alloc, challenger)
     }
 
     /// Whether the claimed values are those of the committed polynomials (Circle STARKs, IACR

@@ -8,7 +8,7 @@ use circle_completeness::laws::honest_openings_end_low;
 use circle_completeness::openings_are_accepted;
 use circle_field::{ComplexExtendable, ExtensionField};
 use circle_presets::{Claim, Proof, Scheme};
-use circle_prover::validate_requests;
+use circle_prover::OpenableRequests;
 use p3_circle::CirclePcs;
 use p3_circle::laws::constant_ends;
 use std::alloc::Global;
@@ -31,12 +31,13 @@ where
     if !pcs.have_heights_of_powers(requests) {
         return unfit("a height is no power of two");
     }
-    let params = &pcs.fri_params;
-    validate_requests::<Val, EF, InputMmcs, FriMmcs>(&pcs.mmcs, params, requests)?;
-    honest_openings_end_low::<Val, EF, InputMmcs, FriMmcs, C>(params, requests, challenger);
-    openings_are_accepted::<Val, EF, InputMmcs, FriMmcs, C>(
-        &pcs.mmcs, params, requests, challenger,
-    );
+    let openable = OpenableRequests::<Val, EF, InputMmcs, FriMmcs>::new(
+        &pcs.mmcs,
+        &pcs.fri_params,
+        requests,
+    )?;
+    honest_openings_end_low(&openable, challenger);
+    openings_are_accepted(&openable, challenger);
     Ok(())
 }
 

@@ -84,8 +84,10 @@ returns-clause-begun g c =
       batch =
           subst
           (λ w. batch_from c.args.transcript.now (claims_of c.args.claims.now) w
-          ≡ Ok (g.EF.ExtensionField.coefficients c.in_ok-alpha.alpha,
-          state_of c.batch_phase.new.self)) (sym is_witness) c.in_ok-alpha.ensures.played;
+          ≡ Ok (
+            g.EF.ExtensionField.coefficients c.in_ok-alpha.alpha,
+            state_of c.batch_phase.new.self,
+          )) (sym is_witness) c.in_ok-alpha.ensures.played;
       layer = c.first_layer-bivariate.ensures.played;
     }
 

@@ -191,5 +191,6 @@ returns-clause-rounds g c =
           (λ w. HasXValues k.field k.gen k.extension k.embed p.log_final_poly_len b w
           c.in_ok-final_poly.final_poly.items)
           (c.deref-3.ensures.value ∙ c.in_ok-rounds.ensures.word (fold_of o first) hand.are
-          ∙ hand.alike betas _ ∙ ap (word_of o first betas) hand.count) c.in_ok-final_poly.ensures.values;
+          ∙ hand.alike betas _ ∙ ap (word_of o first betas) hand.count)
+          c.in_ok-final_poly.ensures.values;
     }

@@ -34,7 +34,8 @@ fold_round-requires-clause-rows g c =
 pub returns-in_err-beta-clause-failure : goal.returns-in_err-beta-clause-failure
 returns-in_err-beta-clause-failure g c =
     handed_on c.from_residual-in_err-beta.result (prover_error c.in_err-beta.field-0.0)
-    (IsRoundFailure (run_of c.args.transcript.now) (g.M.Mmcs.commits c.args.self.now.params.now.mmcs)
+    (IsRoundFailure (run_of c.args.transcript.now)
+    (g.M.Mmcs.commits c.args.self.now.params.now.mmcs)
     c.args.transcript.now c.args.word.items) c.from_residual-in_err-beta.ensures.1
     (inr (
       ap prover_error c.in_err-beta.ensures.failure,

@@ -59,7 +59,8 @@ returns-in_err-round-clause-failure g c =
     let rounds = c.loop-i.rounds in
     let commits = g.M.Mmcs.commits c.args.self.now.params.now.mmcs in
     let word : (ℕ → List g.row.EF.Denot) → List g.row.EF.Denot → ℕ → List g.row.EF.Denot =
-    λ f. word_at (fields_of c.args.self.now) c.args.heights.now f c.args.log_height c.args.first.items in
+    λ f. word_at (fields_of c.args.self.now) c.args.heights.now f c.args.log_height
+    c.args.first.items in
     let played = zip rounds.commitments.items rounds.witnesses.items in
     let long : length played ≡ c.loop-i.i =
     (let e = length-zip rounds.commitments.items rounds.witnesses.items in
@@ -223,7 +224,9 @@ play_round-requires-clause-in_group g c = omega (arith, c.requires.in_group)
 pub returns-in_err-word-clause-failure : goal.returns-in_err-word-clause-failure
 returns-in_err-word-clause-failure g c =
     handed_on c.from_residual-in_err-word.result Memory
-    (IsRoundsFailure (run_of c.args.transcript.now) (g.M.Mmcs.commits c.args.self.now.params.now.mmcs)
-    c.args.transcript.now (fields_of c.args.self.now) c.args.heights.now c.args.folded.now c.args.log_height
+    (IsRoundsFailure (run_of c.args.transcript.now)
+    (g.M.Mmcs.commits c.args.self.now.params.now.mmcs)
+    c.args.transcript.now (fields_of c.args.self.now) c.args.heights.now c.args.folded.now
+    c.args.log_height
     c.args.first.items
     c.args.num_rounds) c.from_residual-in_err-word.ensures.1 (inl refl)

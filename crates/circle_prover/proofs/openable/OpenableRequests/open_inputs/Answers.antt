@@ -102,7 +102,8 @@ loop-request-preserved g c =
     (sym (ap (map opened_batch) c.in_ok-push.ensures.items
     ∙ map-append opened_batch c.loop-request.openings.items (opening ∷ [])))
     (AllZip-more R (take i c.args.self.now.requests.now)
-    (map opened_batch c.loop-request.openings.items) r (opened_batch opening) c.loop-request.invariant here))
+    (map opened_batch c.loop-request.openings.items) r (opened_batch opening)
+    c.loop-request.invariant here))
 
 pub returns : goal.returns
 returns g c =

@@ -93,7 +93,8 @@ returns g c =
     let last = zip_end o.requests.now batches c.loop-request.yielded _ _ c.next.new.self _ from.0
     from.1 c.loop-request.yielded_by c.in-None.is c.next.ensures.steps in
     let f = λ (q : OpeningRequest _ g.row.EF.Denot) (v : List (List (List g.row.EF.Denot))).
-    batch_committed (fields_of o) o.params.now.log_blowup (kept q.prover_data.now) (points_of kept q)
+    batch_committed (fields_of o) o.params.now.log_blowup (kept q.prover_data.now)
+    (points_of kept q)
     v in
     c.loop-request.invariant
     ∙ ap (flat_map (λ b. b))

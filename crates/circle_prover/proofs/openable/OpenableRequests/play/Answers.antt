@@ -19,7 +19,8 @@ use Rattle.circle_prover.specs.Words.{taken_in, top_of}
 use Rattle.circle_prover.specs.declared.run.CommittedWords.{CommittedWords}
 use Rattle.circle_prover.proofs.Answered.{if_ok2}
 use Rattle.circle_relation.proofs.Counts.{queries-count}
-use Rattle.circle_prover.proofs.KnownRequests.{listed-tall, taken-listed, top-high, top-listed, top-low}
+use Rattle.circle_prover.proofs.KnownRequests.{listed-tall, taken-listed, top-high, top-listed}
+use Rattle.circle_prover.proofs.KnownRequests.{top-low}
 use Rattle.circle_prover.proofs.KnownRequests.{top-with, widths-with}
 use Rattle.circle_prover.proofs.Stuck.{draw-moved}
 use Rattle.circle_prover.proofs.openable.OpenableRequests.play.Given.{Over}

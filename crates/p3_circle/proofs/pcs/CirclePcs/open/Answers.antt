@@ -5,9 +5,8 @@ use Rattle.circle_field.specs.Field.{of_nat}
 use Rattle.circle_commit.specs.Mmcs.{HaveHeightsOfPowers}
 use Rattle.circle_commit.specs.Pcs.{openings}
 use Rattle.circle_commit.specs.declared.pcs.OpeningRequest.{OpeningRequest}
-use Rattle.circle_codewords.specs.Requests.{AreRequests}
 use Rattle.circle_relation.specs.Accepts.{Fields}
-use Rattle.circle_prover.proofs.Unrefused.{are-binary, are-fit, are-requests}
+use Rattle.circle_prover.specs.Opening.{IsFailure}
 use Rattle.p3_circle.proofs.Degrees.{high-degree}
 use Rattle.p3_circle.proofs.InOrder.{refuses-before, is-first}
 use Rattle.p3_circle.proofs.OwnRows.{own-rows}
@@ -41,102 +40,77 @@ challenger g = run_moves g.C.ChallengerState.state g.C.CanObserve-1.after_observ
     g.EF.ExtensionField.DEGREE g.EF.ExtensionField.coefficients (of_nat g.Val.Operations.ops)
     g.Val.Operations.ops.zero
 
-pub validate_requests-requires-clause-rows : goal.validate_requests-requires-clause-rows
-validate_requests-requires-clause-rows g c =
-    let powers =
-    subst
-    (All
-    (λ (r : OpeningRequest g.row.InputMmcs-ProverData.Denot g.row.EF.Denot). HaveHeightsOfPowers
-    (g.InputMmcs.Mmcs.matrices r.prover_data.now))) (sym c.deref.ensures.value) c.requires in
-    λ i d lt j e lt'.
-    let power = powers i d lt j e lt' in
-    let is = power.1 in
-    let positive = pow_pos power.0 in
-    omega (arith, is, positive)
-
-pub validate_requests-requires-clause-powers : goal.validate_requests-requires-clause-powers
-validate_requests-requires-clause-powers g c =
+pub new-requires-clause-powers : goal.new-requires-clause-powers
+new-requires-clause-powers g c =
     subst
     (All
     (λ (r : OpeningRequest g.row.InputMmcs-ProverData.Denot g.row.EF.Denot). HaveHeightsOfPowers
     (g.InputMmcs.Mmcs.matrices r.prover_data.now))) (sym c.deref.ensures.value) c.requires
 
-pub open_requests-requires-clause-parameters : goal.open_requests-requires-clause-parameters
-open_requests-requires-clause-parameters g c =
-    are-fit g.InputMmcs.Mmcs.matrices c.deref.result.now g.Val.ComplexExtendable.CIRCLE_TWO_ADICITY
-    c.args.self.now.fri_params (fields g) g.EF.PartialEq.eq (sym c.validate_requests.ensures
-    ∙ c.in_ok-validate_requests.was)
+pub new-requires-clause-rows : goal.new-requires-clause-rows
+new-requires-clause-rows g c = λ i d lt j e lt'.
+    let power = new-requires-clause-powers g c i d lt j e lt' in
+    let is = power.1 in
+    let positive = pow_pos power.0 in
+    omega (arith, is, positive)
 
-pub open_requests-requires-clause-requests : goal.open_requests-requires-clause-requests
-open_requests-requires-clause-requests g c =
-    let kept = g.InputMmcs.Mmcs.matrices in
-    let two = g.Val.ComplexExtendable.CIRCLE_TWO_ADICITY in
-    let p = c.args.self.now.fri_params in
-    let powers =
-    subst
-    (All
-    (λ (r : OpeningRequest g.row.InputMmcs-ProverData.Denot g.row.EF.Denot). HaveHeightsOfPowers
-    (kept r.prover_data.now))) (sym c.deref.ensures.value) c.requires in
-    subst (AreRequests kept (fields g) two p) (c.deref.ensures.value ∙ sym c.deref-2.ensures.value)
-    (are-requests kept c.deref.result.now two p (fields g) g.EF.PartialEq.eq g.met.EF.Field.eq_law
-    g.Val.Operations.laws g.EF.Operations.laws g.met.EF.ExtensionField.embedding
-    g.met.Val.ComplexExtendable.generators_law powers
-    (sym c.validate_requests.ensures ∙ c.in_ok-validate_requests.was))
+pub returns-clause-values : goal.returns-clause-values
+returns-clause-values g c =
+    let same = c.in_ok-openable.ensures.requests in
+    rw (same.1, same.2 ∙ c.deref.ensures.value) at c.open.ensures.values
 
 pub returns-clause-opened : goal.returns-clause-opened
 returns-clause-opened g c =
-    let kept = g.InputMmcs.Mmcs.matrices in
-    let two = g.Val.ComplexExtendable.CIRCLE_TWO_ADICITY in
-    let p = c.args.self.now.fri_params in
-    let same = g.EF.PartialEq.eq in
-    let ok =
-    rw c.deref.ensures.value at (sym c.validate_requests.ensures
-    ∙ c.in_ok-validate_requests.was) in
-    if_both c.open_requests.result _ _ _
+    let o = c.in_ok-openable.openable in
+    let same = c.in_ok-openable.ensures.requests in
+    let requests = same.2 ∙ c.deref.ensures.value in
+    if_both c.open.result _ _ _
     (λ r values opening. record {
-      parameters = are-fit kept c.args.requests.items two p (fields g) same ok;
-      arity = are-binary kept c.args.requests.items two p (fields g) same ok;
-      asked = are-requests kept c.args.requests.items two p (fields g) same g.met.EF.Field.eq_law
-          g.Val.Operations.laws g.EF.Operations.laws g.met.EF.ExtensionField.embedding
-          g.met.Val.ComplexExtendable.generators_law c.requires ok;
+      parameters = rw same.1 at o.fit;
+      arity = rw same.1 at o.binary;
+      asked = rw (same.1, requests) at o.openable;
       answers = values;
       opening = opening;
     })
-    (rw c.deref-2.ensures.value at c.open_requests.ensures.values)
-    (rw c.deref-2.ensures.value at c.open_requests.ensures.proof)
+    (returns-clause-values g c)
+    (rw (same.0, same.1, requests) at c.open.ensures.proof)
 
 pub returns-clause-failure : goal.returns-clause-failure
 returns-clause-failure g c =
-    let ok =
-    rw c.deref.ensures.value at (sym c.validate_requests.ensures
-    ∙ c.in_ok-validate_requests.was) in
-    if_err _ _ c.open_requests.result
-    (λ e why. later-by _ _ e (g.C.ChallengerState.state c.args.challenger.now)
-    (g.C.ChallengerState.state c.open_requests.new.challenger) ok why)
-    (rw c.deref-2.ensures.value at c.open_requests.ensures.failure)
+    let o = c.in_ok-openable.openable in
+    let p = c.args.self.now.fri_params in
+    let kept = g.InputMmcs.Mmcs.matrices in
+    let same = c.in_ok-openable.ensures.requests in
+    let s = g.C.ChallengerState.state c.args.challenger.now in
+    let ok = rw c.deref.ensures.value at c.in_ok-openable.ensures.tested in
+    if_err _ _ c.open.result
+    (λ e why. later-by _ _ e s (g.C.ChallengerState.state c.open.new.challenger) ok
+    (subst
+    (λ rs. IsFailure (fields g) (challenger g) p (g.FriMmcs.Mmcs.commits p.mmcs) kept rs s e)
+    (same.2 ∙ c.deref.ensures.value)
+    (subst
+    (λ q. IsFailure (fields g) (challenger g) q (g.FriMmcs.Mmcs.commits q.mmcs) kept
+    o.requests.now s e) same.1 why)))
+    c.open.ensures.failure
 
-pub returns-in_err-validate_requests-clause-refused :
-    goal.returns-in_err-validate_requests-clause-refused
-returns-in_err-validate_requests-clause-refused g c =
-    let first =
-    rw c.deref.ensures.value at (sym c.validate_requests.ensures
-    ∙ c.in_err-validate_requests.was) in
-    refuses-before _ c.from_residual.result c.in_err-validate_requests.field-0.0 first
+pub returns-in_err-openable-clause-refused :
+    goal.returns-in_err-openable-clause-refused
+returns-in_err-openable-clause-refused g c =
+    let first = rw c.deref.ensures.value at c.in_err-openable.ensures.tested in
+    refuses-before _ c.from_residual.result c.in_err-openable.field-0.0 first
     c.from_residual.ensures.1 c.args.challenger.now
 
-pub returns-in_err-validate_requests-clause-failure :
-    goal.returns-in_err-validate_requests-clause-failure
-returns-in_err-validate_requests-clause-failure g c =
-    let first =
-    rw c.deref.ensures.value at (sym c.validate_requests.ensures
-    ∙ c.in_err-validate_requests.was) in
-    is-first _ c.from_residual.result c.in_err-validate_requests.field-0.0 first
+pub returns-in_err-openable-clause-failure :
+    goal.returns-in_err-openable-clause-failure
+returns-in_err-openable-clause-failure g c =
+    let first = rw c.deref.ensures.value at c.in_err-openable.ensures.tested in
+    is-first _ c.from_residual.result c.in_err-openable.field-0.0 first
     c.from_residual.ensures.1 _ (g.C.ChallengerState.state c.args.challenger.now)
 
 pub returns-clause-honest : goal.returns-clause-honest
 returns-clause-honest g c =
     let p = c.args.self.now.fri_params in
-    if_err _ _ c.open_requests.result
+    if_err _ _ c.open.result
     (λ e why honest. prover-memory e
     (honest-open (fields g) g.Val.Operations.laws g.EF.Operations.laws
     g.met.EF.ExtensionField.embedding g.Val.PartialEq.eq g.met.Val.Field.eq_law
@@ -145,13 +119,13 @@ returns-clause-honest g c =
     g.InputMmcs.Mmcs.matrices (g.InputMmcs.Mmcs.commits c.args.self.now.mmcs) (challenger g)
     (g.FriMmcs.Mmcs.commits p.mmcs) c.args.requests.items
     (g.C.ChallengerState.state c.args.challenger.now)
-    (g.C.ChallengerState.state c.open_requests.new.challenger) e honest.0 honest.1 why))
+    (g.C.ChallengerState.state c.open.new.challenger) e honest.0 honest.1 why))
     (returns-clause-failure g c)
 
 pub
-    returns-in_err-validate_requests-clause-honest :
-    goal.returns-in_err-validate_requests-clause-honest
-returns-in_err-validate_requests-clause-honest g c =
+    returns-in_err-openable-clause-honest :
+    goal.returns-in_err-openable-clause-honest
+returns-in_err-openable-clause-honest g c =
     let p = c.args.self.now.fri_params in
     if_err _ _ c.from_residual.result
     (λ e why honest. prover-memory e
@@ -163,13 +137,13 @@ returns-in_err-validate_requests-clause-honest g c =
     (g.FriMmcs.Mmcs.commits p.mmcs) c.args.requests.items
     (g.C.ChallengerState.state c.args.challenger.now)
     (g.C.ChallengerState.state c.args.challenger.now) e honest.0 honest.1 why))
-    (returns-in_err-validate_requests-clause-failure g c)
+    (returns-in_err-openable-clause-failure g c)
 
 pub returns-clause-only : goal.returns-clause-only
 returns-clause-only g c =
     let p = c.args.self.now.fri_params in
     let opened = returns-clause-opened g c in
-    if_both c.open_requests.result _ _ _
+    if_both c.open.result _ _ _
     (λ r given again. true-values _ (fields g) g.Val.Operations.laws g.EF.Operations.laws
     g.met.EF.ExtensionField.embedding g.Val.ComplexExtendable.CIRCLE_TWO_ADICITY
     g.met.Val.ComplexExtendable.generators_law p g.InputMmcs.Mmcs.matrices
@@ -184,7 +158,7 @@ returns-clause-words g c =
     let p = c.args.self.now.fri_params in
     let kept = g.InputMmcs.Mmcs.matrices in
     let opened = returns-clause-opened g c in
-    if_both c.open_requests.result _ _ _
+    if_both c.open.result _ _ _
     (λ r given again. own-rows (fields g) g.Val.Operations.laws
     g.met.Val.ComplexExtendable.generators_law p kept c.args.requests.items (openings r.0.items)
     given.asked given.answers)
@@ -194,7 +168,7 @@ pub returns-clause-accepted : goal.returns-clause-accepted
 returns-clause-accepted g c =
     let p = c.args.self.now.fri_params in
     let opened = returns-clause-opened g c in
-    if_both c.open_requests.result _ _ _
+    if_both c.open.result _ _ _
     (λ r given again. opening-accepted (fields g) g.Val.Operations.laws g.EF.Operations.laws
     g.met.EF.ExtensionField.embedding g.Val.PartialEq.eq g.met.Val.Field.eq_law
     g.EF.PartialEq.eq g.met.EF.Field.eq_law g.met.Val.ComplexExtendable.at_most_62
@@ -208,19 +182,19 @@ returns-clause-accepted g c =
 pub returns-clause-degree : goal.returns-clause-degree
 returns-clause-degree g c =
     let p = c.args.self.now.fri_params in
-    if_err _ _ c.open_requests.result
+    if_err _ _ c.open.result
     (λ e why. high-degree (fields g) g.Val.Operations.laws g.EF.Operations.laws
     g.met.EF.ExtensionField.embedding g.Val.PartialEq.eq g.met.Val.Field.eq_law
     g.EF.PartialEq.eq g.met.EF.Field.eq_law g.met.Val.ComplexExtendable.generators_law p
     g.InputMmcs.Mmcs.matrices (challenger g) (g.FriMmcs.Mmcs.commits p.mmcs) c.args.requests.items
     c.requires (g.C.ChallengerState.state c.args.challenger.now)
-    (g.C.ChallengerState.state c.open_requests.new.challenger) e why)
+    (g.C.ChallengerState.state c.open.new.challenger) e why)
     (returns-clause-failure g c)
 
 pub
-    returns-in_err-validate_requests-clause-degree :
-    goal.returns-in_err-validate_requests-clause-degree
-returns-in_err-validate_requests-clause-degree g c =
+    returns-in_err-openable-clause-degree :
+    goal.returns-in_err-openable-clause-degree
+returns-in_err-openable-clause-degree g c =
     let p = c.args.self.now.fri_params in
     if_err _ _ c.from_residual.result
     (λ e why. high-degree (fields g) g.Val.Operations.laws g.EF.Operations.laws
@@ -229,4 +203,4 @@ returns-in_err-validate_requests-clause-degree g c =
     g.InputMmcs.Mmcs.matrices (challenger g) (g.FriMmcs.Mmcs.commits p.mmcs) c.args.requests.items
     c.requires (g.C.ChallengerState.state c.args.challenger.now)
     (g.C.ChallengerState.state c.args.challenger.now) e why)
-    (returns-in_err-validate_requests-clause-failure g c)
+    (returns-in_err-openable-clause-failure g c)
