@@ -41,6 +41,6 @@ invariant_of-result g c =
     record {
       drawn = is_drawn k _ _ d.run.params.now (batch_claims d.run.claims.now)
           (proof_of d.run.proof.now) (challenges_of d.draws) d.count
-          (λ t h at. false_not _ h ((g.met.EF.Field.eq_law _ _).1 at)) d.run.tested d.run.top d.betas
-          d.below (run-is g c);
+          (λ t h at. false_not _ h ((g.met.EF.Field.eq_law _ _).1 at)) d.run.tested d.run.top
+          d.betas d.below (run-is g c);
     }

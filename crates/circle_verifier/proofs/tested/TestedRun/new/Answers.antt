@@ -72,8 +72,8 @@ returns-in_err-log_max_height g c =
 pub returns-in_err-validate_parameters : goal.returns-in_err-validate_parameters
 returns-in_err-validate_parameters g c =
     ap (result_map_both parts_of (λ e. e))
-    (refused-is c.from_residual-in_err-validate_parameters.result c.in_err-validate_parameters.field-0.0
-    c.from_residual-in_err-validate_parameters.ensures.1)
+    (refused-is c.from_residual-in_err-validate_parameters.result
+    c.in_err-validate_parameters.field-0.0 c.from_residual-in_err-validate_parameters.ensures.1)
     ∙ sym
     (in-turn g.Val.ComplexExtendable.CIRCLE_TWO_ADICITY _ _ c.args.params.now
     (batch_claims c.args.claims.now) (proof_of c.args.proof.now) _
@@ -101,8 +101,8 @@ returns-in_err-validate_proof_shape g c =
     let batches = batch_claims c.args.claims.now in
     let high = known g (goal.at.returns-in_err-validate_proof_shape g c).In_ok-log_max_height in
     ap (result_map_both parts_of (λ e. e))
-    (refused-is c.from_residual-in_err-validate_proof_shape.result c.in_err-validate_proof_shape.field-0.0
-    c.from_residual-in_err-validate_proof_shape.ensures.1)
+    (refused-is c.from_residual-in_err-validate_proof_shape.result
+    c.in_err-validate_proof_shape.field-0.0 c.from_residual-in_err-validate_proof_shape.ensures.1)
     ∙ sym
     (in-turn g.Val.ComplexExtendable.CIRCLE_TWO_ADICITY _ _ c.args.params.now
     (batch_claims c.args.claims.now) (proof_of c.args.proof.now) _
