@@ -1,5 +1,5 @@
 -- The batches of a checked run, one after another.
-use Rattle.std.proofs.Common.{◌≡◌, ℕ, ◌+◌, ◌<◌, List, ◌++◌, length, map, take, get_or, sym, ap, subst}
+use Rattle.std.proofs.Common.{◌≡◌, ℕ, ◌+◌, ◌<◌, List, ◌++◌, length, take, get_or, sym, ap, subst}
 use Rattle.std.proofs.Common.{◌∙◌, arith}
 use Rattle.std.specs.Prelude.{zip, All, slice_index_or}
 use Rattle.std.proofs.lemmas.List.{length-map, get_or-map}
@@ -17,8 +17,9 @@ use Rattle.circle_verifier.proofs.ReducedRows.{pair-read, all_matrices-more, all
 
 module _ {F E I W IC ID IP IE WC WD WP WE : Type 0} {g over inputs ic ip ie words wc wp we : _}
     (o : CheckedRun F E I W IC ID IP IE WC WD WP WE g over inputs ic ip ie words wc wp we) (i : ℕ)
-    (batch : CommitmentOpening E IC (CircleDomain F g)) (opening : BatchMultiOpening F I IC ID IP IE)
-    (within : i < length o.run.claims.now) (is : batch ≡ get_or o.run.claims.now i batch)
+    (batch : CommitmentOpening E IC (CircleDomain F g))
+    (opening : BatchMultiOpening F I IC ID IP IE) (within : i < length o.run.claims.now)
+    (is : batch ≡ get_or o.run.claims.now i batch)
     (is-opened :
     opening ≡ get_or o.run.proof.now.fri_proof.input_openings.input_openings.items i opening) where
   abbrev batches : List (BatchClaim IC E)

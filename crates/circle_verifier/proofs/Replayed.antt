@@ -12,7 +12,8 @@ use Rattle.circle_commit.specs.declared.error.FriError.{FriError}
 use Rattle.circle_commit.specs.declared.error.FriError.TheVariants.{Memory}
 use Rattle.circle_commit.specs.declared.params.FriParameters.{FriParameters}
 use Rattle.circle_relation.specs.Statement.{BatchClaim, MatrixClaim, OpeningProof, Challenges}
-use Rattle.circle_relation.specs.Statement.{log_max_height}
+use Rattle.circle_relation.specs.Statement.{all_matrices, log_max_height}
+use Rattle.circle_relation.specs.StatementOf.{batch_claims}
 use Rattle.circle_relation.specs.Taken.{drawn_by}
 use Rattle.circle_relation.proofs.Counts.{betas-count, queries-count}
 use Rattle.circle_transcript.specs.declared.failure.CircleTranscriptFailure.{CircleTranscriptFailure}
@@ -24,13 +25,24 @@ use Rattle.circle_transcript.specs.Shape.{Shape}
 use Rattle.circle_transcript.specs.Draw.{Claim, Taken, taken, Drawn, draw}
 use Rattle.circle_verifier.specs.Replay.{drawing, refusal_of, IsMissedIn}
 use Rattle.circle_verifier.specs.Tested.{rounds_due}
+use Rattle.circle_verifier.specs.declared.tested.TestedRun.{TestedRun}
 
 -- claims that leave something to fold are of heights above what folding stops at
-pub tested_high : {E : Type 0} (blowup final : ℕ) (ms : List (MatrixClaim E)) → 1 ≤ length ms →
+tested_high : {E : Type 0} (blowup final : ℕ) (ms : List (MatrixClaim E)) → 1 ≤ length ms →
     All (λ m. final + 1 ≤ m.log_n) ms → blowup + final + 1 ≤ log_max_height blowup ms
 tested_high blowup final [] some all = absurd (omega (arith, some))
 tested_high blowup final (m ∷ ms) some all = let here =
     All-head (λ m. final + 1 ≤ m.log_n) m ms all in omega (arith, here)
+
+pub high-of : {F E I W IC ID IP IE WC WD WP WE : Type 0} {g over inputs ic ip ie words wc wp we : _}
+    (t : TestedRun F E I W IC ID IP IE WC WD WP WE g over inputs ic ip ie words wc wp we) →
+    t.params.now.log_blowup + t.params.now.log_final_poly_len + 1 ≤ t.log_max_height
+high-of t =
+    let high =
+    tested_high t.params.now.log_blowup t.params.now.log_final_poly_len
+    (all_matrices (batch_claims t.claims.now)) t.tested.some_matrix t.tested.large in
+    let top = t.top in
+    omega (arith, high, top)
 
 -- what is absorbed, part by part
 pub taken_is : {F E Com : Type 0} (cs ds : List (Claim E)) (batch query : F) (layer : Com)

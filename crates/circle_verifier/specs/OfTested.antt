@@ -13,19 +13,20 @@ use Rattle.circle_verifier.specs.declared.tested.TestedRun.{TestedRun}
 
 -- I and W are the schemes of the batches and of the codewords, each with its commitments, data,
 -- proofs and errors; what is known of the fields is in `over`
-module _ {F E I W IC ID IP IE WC WD WP WE : Type 0} {g over inputs ic ip ie words wc wp we : _} where
+module _ {F E I W IC ID IP IE WC WD WP WE : Type 0} {g over inputs ic ip ie words wc wp we : _}
+    (t : TestedRun F E I W IC ID IP IE WC WD WP WE g over inputs ic ip ie words wc wp we) where
   -- what a run is of
-  abbrev pub parts_of : TestedRun F E I W IC ID IP IE WC WD WP WE g over inputs ic ip ie words wc wp we
-      → FriParameters W × List (CommitmentOpening E IC (CircleDomain F g))
+  abbrev pub parts_of : FriParameters W × List (CommitmentOpening E IC (CircleDomain F g))
       × CirclePcsProof F E I W F IC ID IP IE WC WD WP WE
-  parts_of t = (t.params.now, t.claims.now, t.proof.now)
+  parts_of = (t.params.now, t.claims.now, t.proof.now)
 
+module _ {F E I W IC ID IP IE WC WD WP WE : Type 0} {g over inputs ic ip ie words wc wp we : _}
+    (result :
+    Result (TestedRun F E I W IC ID IP IE WC WD WP WE g over inputs ic ip ie words wc wp we)
+    (FriError WE (InputError IE WE))) where
   -- the run of these parameters, claims and proof, or the first refusal that there is reason for
-  abbrev pub IsTestedOf :
-      Result (TestedRun F E I W IC ID IP IE WC WD WP WE g over inputs ic ip ie words wc wp we)
-      (FriError WE (InputError IE WE)) → FriParameters W
-      → List (CommitmentOpening E IC (CircleDomain F g))
+  abbrev pub IsTestedOf : FriParameters W → List (CommitmentOpening E IC (CircleDomain F g))
       → CirclePcsProof F E I W F IC ID IP IE WC WD WP WE → Type 0
-  IsTestedOf result p claims proof =
+  IsTestedOf p claims proof =
       result_map_both parts_of (λ e. e) result
       ≡ answer (run_tests over.fields p claims proof) (p, claims, proof)

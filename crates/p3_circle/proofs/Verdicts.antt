@@ -101,8 +101,8 @@ module _ {C S F E I W IC ID IP IE WC WD WP WE : Type 0} {g : Ghosts F} {k : Fiel
       (batch_claims claims) (proof_of proof) WE IE WE
       (tested k k.is_zero (λ t. is_at_infinity k.same k.extension t) p (batch_claims claims)
       (proof_of proof) a.drawn
-      (queries-drawn m p k.extension (batch_claims claims) (proof_of proof) old left a.drawn a.draws)
-      zero finite a.accepts)
+      (queries-drawn m p k.extension (batch_claims claims) (proof_of proof) old left a.drawn
+      a.draws) zero finite a.accepts)
 
   pub missed-memory : (e : FriError WE (InputError IE WE)) →
       (e ≡ Memory) ⊎ IsMissedIn (draw_from k m p claims proof old) e → e ≡ Memory

@@ -25,8 +25,9 @@ module _ {F E : Type 0} {g : _} (matrices : List (MatrixOpening E (CircleDomain 
   within : i < length matrices → i < length (matrix_claims matrices)
   within lt = omega (arith, lt, length-map matrices matrix_claim)
 
-  item-read : (m : MatrixOpening E (CircleDomain F g)) → i < length matrices → m ≡ get_or matrices i m
-      → slice_index_or (matrix_claims matrices) i (matrix_claim m) ≡ matrix_claim m
+  item-read : (m : MatrixOpening E (CircleDomain F g)) → i < length matrices →
+      m ≡ get_or matrices i m →
+      slice_index_or (matrix_claims matrices) i (matrix_claim m) ≡ matrix_claim m
   item-read m lt is =
       get_or-map matrix_claim matrices i m (matrix_claim m) lt ∙ ap matrix_claim (sym is)
 

@@ -15,7 +15,41 @@ use Rattle.circle_verifier.specs.OfRun.{fields_of, run_of, Refuses}
 use Rattle.circle_relation.specs.Sums.{all_claims_at, AreApartAt, Adds}
 use Rattle.circle_relation.proofs.ReducedSums.{adds-all}
 use Rattle.circle_verifier.proofs.ReducedValues.{handed_on, points-at, sums-at, apart-at}
+use Rattle.circle_verifier.proofs.checked.CheckedRun.reduced_word.Given.{Over}
 use Rattle.circle_verifier.proofs.checked.CheckedRun.reduced_word.Goals as goal
+use Rattle.circle_verifier.proofs.checked.CheckedRun.reduced_word.Goals.{After-deref_mut}
+
+-- the points are those of the queries, and the sums begin as zeros
+points-are : (g : Over) (c : After-deref_mut g) →
+    let run = c.args.self.now.run in
+    let k = fields_of run in
+    map coordinates c.in_ok-points.points.items
+    ≡ map (query_point k.field k.gen c.args.log_height (top k run.params.now (run_of run)))
+    run.indices.now
+points-are g c =
+    let run = c.args.self.now.run in
+    let k = fields_of run in
+    c.in_ok-points.ensures
+    ∙ ap (λ n. map (query_point k.field k.gen c.args.log_height n) run.indices.now) run.drawn.top
+
+listed : (g : Over) (c : After-deref_mut g) →
+    let run = c.args.self.now.run in
+    let k = fields_of run in
+    map coordinates c.deref.result.now
+    ≡ map (query_point k.field k.gen c.args.log_height (top k run.params.now (run_of run)))
+    run.indices.now
+listed g c = ap (map coordinates) c.deref.ensures.value ∙ points-are g c
+
+zeros : (g : Over) (c : After-deref_mut g) →
+    c.deref_mut.result.now ≡ replicate (length c.args.self.now.run.indices.now) c.ZERO.result
+zeros g c =
+    c.deref_mut.ensures.value
+    ∙ c.in_ok-values.ensures.items_if_clones_equal (λ y same. g.met.EF.Field.clone_law _ _ same)
+
+counted : (g : Over) (c : After-deref_mut g) →
+    length c.deref_mut.result.now ≡ length c.args.self.now.run.indices.now
+counted g c =
+    ap length (zeros g c) ∙ length-replicate (length c.args.self.now.run.indices.now) c.ZERO.result
 
 pub query_points-requires-clause-positive : goal.query_points-requires-clause-positive
 query_points-requires-clause-positive g c = c.requires.positive
@@ -67,35 +101,15 @@ pub add_batches-requires-clause-points : goal.add_batches-requires-clause-points
 add_batches-requires-clause-points g c =
     let run = c.args.self.now.run in
     let k = fields_of run in
-    let r = run_of run in
-    let h = c.args.log_height in
-    let queries = run.indices.now in
-    let ps = c.in_ok-points.points.items in
-    let of_points : map coordinates ps ≡ map
-    (query_point k.field k.gen h (top k run.params.now r)) queries =
-    c.in_ok-points.ensures ∙ ap (λ n. map (query_point k.field k.gen h n) queries)
-    run.drawn.top in
-    let listed : map coordinates c.deref.result.now ≡ map
-    (query_point k.field k.gen h (top k run.params.now r)) queries =
-    ap (map coordinates) c.deref.ensures.value ∙ of_points in
-    let zeros : c.in_ok-values.values.items ≡ replicate (length queries) c.ZERO.result =
-    c.in_ok-values.ensures.items_if_clones_equal (λ y same. g.met.EF.Field.clone_law _ _ same) in
-    let old = c.deref_mut.result.now in
-    let is_old : old ≡ replicate (length queries) c.ZERO.result = c.deref_mut.ensures.value
-    ∙ zeros in
-    let counted : length old ≡ length queries = ap length is_old
-    ∙ length-replicate (length queries) c.ZERO.result in
-    sym (length-map c.deref.result.now coordinates) ∙ ap length listed
-    ∙ length-map queries (query_point k.field k.gen h (top k run.params.now r))
-    ∙ sym counted
+    let at = (goal.at.add_batches-requires-clause-points g c).After-deref_mut in
+    sym (length-map c.deref.result.now coordinates) ∙ ap length (listed g at)
+    ∙ length-map run.indices.now
+    (query_point k.field k.gen c.args.log_height (top k run.params.now (run_of run)))
+    ∙ sym (counted g at)
 
 pub add_batches-requires-clause-queries : goal.add_batches-requires-clause-queries
 add_batches-requires-clause-queries g c =
-    let queries = c.args.self.now.run.indices.now in
-    let zeros : c.in_ok-values.values.items ≡ replicate (length queries) c.ZERO.result =
-    c.in_ok-values.ensures.items_if_clones_equal (λ y same. g.met.EF.Field.clone_law _ _ same) in
-    sym (ap length (c.deref_mut.ensures.value ∙ zeros)
-    ∙ length-replicate (length queries) c.ZERO.result)
+    sym (counted g (goal.at.add_batches-requires-clause-queries g c).After-deref_mut)
 
 pub add_batches-requires-clause-blowup : goal.add_batches-requires-clause-blowup
 add_batches-requires-clause-blowup g c = refl
@@ -105,48 +119,34 @@ add_batches-requires-clause-enough g c = c.requires.enough
 
 pub returns-in-Some-clause-word : goal.returns-in-Some-clause-word
 returns-in-Some-clause-word g c =
+    let at = (goal.at.returns-in-Some-clause-word g c).After-deref_mut in
     let run = c.args.self.now.run in
     let k = fields_of run in
     let r = run_of run in
     let h = c.args.log_height in
     let queries = run.indices.now in
-    let ps = c.in_ok-points.points.items in
-    let of_points : map coordinates ps ≡ map
-    (query_point k.field k.gen h (top k run.params.now r)) queries =
-    c.in_ok-points.ensures ∙ ap (λ n. map (query_point k.field k.gen h n) queries)
-    run.drawn.top in
-    let listed : map coordinates c.deref.result.now ≡ map
-    (query_point k.field k.gen h (top k run.params.now r)) queries =
-    ap (map coordinates) c.deref.ensures.value ∙ of_points in
-    let zeros : c.in_ok-values.values.items ≡ replicate (length queries) c.ZERO.result =
-    c.in_ok-values.ensures.items_if_clones_equal (λ y same. g.met.EF.Field.clone_law _ _ same) in
-    let old = c.deref_mut.result.now in
-    let is_old : old ≡ replicate (length queries) c.ZERO.result = c.deref_mut.ensures.value
-    ∙ zeros in
-    let counted : length old ≡ length queries = ap length is_old
-    ∙ length-replicate (length queries) c.ZERO.result in
     let l = k.extension in
+    let old = c.deref_mut.result.now in
     let new = c.add_batches.new.sums in
+    let points = map coordinates c.deref.result.now in
     let none = origin g.Val.Operations.ops in
     let claims =
     all_claims_at run.params.now.log_blowup h (zip r.batches r.proof.inputs) in
     let added = c.in-Some.ensures.sums run.alpha c.requires.powers in
-    let adds : Adds l k.embed run.alpha (map coordinates c.deref.result.now) none claims
-    l.one added.0 old new = added.1 in
+    let adds : Adds l k.embed run.alpha points none claims l.one added.0 old new = added.1 in
+    let long : length old ≡ length queries = counted g at in
     let zero : (j : ℕ) → j < length queries → slice_index_or old j l.zero ≡ l.zero =
-    λ j lt. ap (λ xs. slice_index_or xs j l.zero) is_old
+    λ j lt. ap (λ xs. slice_index_or xs j l.zero) (zeros g at)
     ∙ get_or-replicate (length queries) j c.ZERO.result l.zero lt ∙ c.ZERO.ensures
     ∙ g.met.EF.Field.zero_law in
-    let sums = sums-at k run.params.now r h new (map coordinates c.deref.result.now) none
-    (adds.counted ∙ counted) listed
-    (λ j lt. adds-all g.EF.Operations.laws.ring k.embed run.alpha
-    (map coordinates c.deref.result.now) none claims added.0 old new adds j
-    (omega (arith, lt, adds.counted)) (zero j (omega (arith, lt, adds.counted, counted)))) in
+    let sums = sums-at k run.params.now r h new points none (adds.counted ∙ long) (listed g at)
+    (λ j lt. adds-all g.EF.Operations.laws.ring k.embed run.alpha points none claims added.0 old new
+    adds j (omega (arith, lt, adds.counted)) (zero j (omega (arith, lt, adds.counted, long)))) in
     let stored : (with_items c.in_ok-values.values new).items ≡ new =
     with_items_is c.in_ok-values.values new
     (omega (arith, adds.counted, c.deref_mut.ensures.len)) in
-    ap (λ xs. (h, (map coordinates ps, xs))) stored
-    ∙ ap (λ xs. (h, (xs, new))) (of_points ∙ sym (points-at k run.params.now r h))
+    ap (λ xs. (h, (map coordinates c.in_ok-points.points.items, xs))) stored
+    ∙ ap (λ xs. (h, (xs, new))) (points-are g at ∙ sym (points-at k run.params.now r h))
     ∙ ap
     (λ ss. (
       h,
@@ -161,19 +161,9 @@ pub returns-in-Some-clause-apart : goal.returns-in-Some-clause-apart
 returns-in-Some-clause-apart g c =
     let run = c.args.self.now.run in
     let k = fields_of run in
-    let r = run_of run in
-    let h = c.args.log_height in
-    let queries = run.indices.now in
-    let ps = c.in_ok-points.points.items in
-    let of_points : map coordinates ps ≡ map
-    (query_point k.field k.gen h (top k run.params.now r)) queries =
-    c.in_ok-points.ensures ∙ ap (λ n. map (query_point k.field k.gen h n) queries)
-    run.drawn.top in
-    let listed : map coordinates c.deref.result.now ≡ map
-    (query_point k.field k.gen h (top k run.params.now r)) queries =
-    ap (map coordinates) c.deref.ensures.value ∙ of_points in
-    subst (λ xs. AreApartAt k.extension k.embed run.params.now.log_blowup h xs
-    (all_matrices r.batches)) listed c.in-Some.ensures.apart
+    subst (λ xs. AreApartAt k.extension k.embed run.params.now.log_blowup c.args.log_height xs
+    (all_matrices (run_of run).batches))
+    (listed g (goal.at.returns-in-Some-clause-apart g c).After-deref_mut) c.in-Some.ensures.apart
 
 pub returns-in-None-clause-refused : goal.returns-in-None-clause-refused
 unfolding IsReason
@@ -182,15 +172,8 @@ returns-in-None-clause-refused g c = λ apart.
     let k = fields_of run in
     let r = run_of run in
     let h = c.args.log_height in
-    let queries = run.indices.now in
-    let ps = c.in_ok-points.points.items in
-    let of_points : map coordinates ps ≡ map
-    (query_point k.field k.gen h (top k run.params.now r)) queries =
-    c.in_ok-points.ensures ∙ ap (λ n. map (query_point k.field k.gen h n) queries)
-    run.drawn.top in
-    let listed : map coordinates c.deref.result.now ≡ map
-    (query_point k.field k.gen h (top k run.params.now r)) queries =
-    ap (map coordinates) c.deref.ensures.value ∙ of_points in
     c.in-None.ensures.none refl
     (subst (λ xs. AreApartAt k.extension k.embed run.params.now.log_blowup h xs
-    (all_matrices r.batches)) (sym listed) (apart-at k run.params.now r h apart))
+    (all_matrices r.batches))
+    (sym (listed g (goal.at.returns-in-None-clause-refused g c).After-deref_mut))
+    (apart-at k run.params.now r h apart))

@@ -1,9 +1,8 @@
 use Rattle.std.proofs.Common.{◌≡◌, ap, ◌∙◌}
-use Rattle.circle_relation.specs.Accepts.{Fields}
 use Rattle.circle_relation.specs.RunOf.{proof_of, run_with}
 use Rattle.circle_relation.specs.StatementOf.{batch_claims}
 use Rattle.circle_relation.specs.Taken.{challenges_of}
-use Rattle.circle_verifier.specs.OfDrawn.{drawn_run}
+use Rattle.circle_verifier.specs.OfDrawn.{fields_of, drawn_run}
 use Rattle.circle_verifier.proofs.Verified.{challenges, is_drawn, false_not}
 use Rattle.circle_verifier.proofs.drawn.DrawnRun.opened.Given as given
 use Rattle.circle_verifier.proofs.drawn.DrawnRun.opened.Goals as goal
@@ -27,20 +26,10 @@ returns-clause-run g c = run-is g (goal.at.returns-clause-run g c).After-deref-2
 
 pub invariant_of-result : goal.invariant_of-result
 invariant_of-result g c =
-    let k : Fields g.row.Val.Denot g.row.EF.Denot =
-    record {
-      field = g.Val.Operations.ops;
-      gen = g.Val.ComplexExtendable.generators;
-      two_adicity = g.Val.ComplexExtendable.CIRCLE_TWO_ADICITY;
-      is_zero = λ w. g.Val.PartialEq.eq w g.Val.Field.ZERO;
-      extension = g.EF.Operations.ops;
-      embed = g.EF.ExtensionField.embed;
-      same = g.EF.PartialEq.eq;
-    } in
     let d = c.args.self.now in
     record {
-      drawn = is_drawn k _ _ d.run.params.now (batch_claims d.run.claims.now)
+      drawn = is_drawn (fields_of d) _ _ d.run.params.now (batch_claims d.run.claims.now)
           (proof_of d.run.proof.now) (challenges_of d.draws) d.count
-          (λ t h at. false_not _ h ((g.met.EF.Field.eq_law _ _).1 at)) d.run.tested d.run.top d.betas
-          d.below (run-is g c);
+          (λ t h at. false_not _ h ((g.met.EF.Field.eq_law _ _).1 at)) d.run.tested d.run.top
+          d.betas d.below (run-is g c);
     }

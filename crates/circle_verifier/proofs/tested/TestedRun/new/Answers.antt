@@ -1,4 +1,5 @@
 use Rattle.std.proofs.Common.{◌≡◌, ◌+◌, ◌≤◌, ◌<◌, Ok, sym, ap, ◌∙◌, arith}
+use Rattle.std.specs.Prelude.{Result, Err, IsErrAnd}
 use Rattle.std.specs.Result.{result_map_both}
 use Rattle.circle_relation.specs.Statement.{all_matrices, log_max_height}
 use Rattle.circle_relation.specs.StatementOf.{batch_claims}
@@ -14,6 +15,12 @@ use Rattle.circle_verifier.proofs.tested.TestedRun.new.Given.{Over}
 use Rattle.circle_verifier.proofs.tested.TestedRun.new.Goals as goal
 use Rattle.circle_verifier.proofs.tested.TestedRun.new.Goals.{In_ok-log_max_height}
 use Rattle.circle_verifier.proofs.tested.TestedRun.new.Goals.{In_ok-validate_points}
+
+-- a test's refusal is that of the run
+refused : {A B E : Type 0} (f : A → B) (result : Result A E) (e : E) {x : Result B E} →
+    IsErrAnd result (λ d. d ≡ e) → x ≡ Err e → result_map_both f (λ d. d) result ≡ x
+refused f result e handed is =
+    ap (result_map_both f (λ d. d)) (refused-is result e handed) ∙ sym is
 
 -- what is known of claims that pass
 known : (g : Over) (c : In_ok-log_max_height g) →
@@ -60,10 +67,7 @@ whole g c v =
 
 pub returns-in_err-log_max_height : goal.returns-in_err-log_max_height
 returns-in_err-log_max_height g c =
-    ap (result_map_both parts_of (λ e. e))
-    (refused-is c.from_residual.result c.in_err-log_max_height.field-0.0
-    c.from_residual.ensures.1)
-    ∙ sym
+    refused parts_of _ c.in_err-log_max_height.field-0.0 c.from_residual.ensures.1
     (in-turn g.Val.ComplexExtendable.CIRCLE_TWO_ADICITY _ _ c.args.params.now
     (batch_claims c.args.claims.now) (proof_of c.args.proof.now) _
     ∙ turned _
@@ -71,10 +75,8 @@ returns-in_err-log_max_height g c =
 
 pub returns-in_err-validate_parameters : goal.returns-in_err-validate_parameters
 returns-in_err-validate_parameters g c =
-    ap (result_map_both parts_of (λ e. e))
-    (refused-is c.from_residual-in_err-validate_parameters.result c.in_err-validate_parameters.field-0.0
-    c.from_residual-in_err-validate_parameters.ensures.1)
-    ∙ sym
+    refused parts_of _ c.in_err-validate_parameters.field-0.0
+    c.from_residual-in_err-validate_parameters.ensures.1
     (in-turn g.Val.ComplexExtendable.CIRCLE_TWO_ADICITY _ _ c.args.params.now
     (batch_claims c.args.claims.now) (proof_of c.args.proof.now) _
     ∙ turned _
@@ -100,10 +102,8 @@ returns-in_err-validate_proof_shape g c =
     let fri = c.args.proof.now.fri_proof in
     let batches = batch_claims c.args.claims.now in
     let high = known g (goal.at.returns-in_err-validate_proof_shape g c).In_ok-log_max_height in
-    ap (result_map_both parts_of (λ e. e))
-    (refused-is c.from_residual-in_err-validate_proof_shape.result c.in_err-validate_proof_shape.field-0.0
-    c.from_residual-in_err-validate_proof_shape.ensures.1)
-    ∙ sym
+    refused parts_of _ c.in_err-validate_proof_shape.field-0.0
+    c.from_residual-in_err-validate_proof_shape.ensures.1
     (in-turn g.Val.ComplexExtendable.CIRCLE_TWO_ADICITY _ _ c.args.params.now
     (batch_claims c.args.claims.now) (proof_of c.args.proof.now) _
     ∙ turned _
@@ -124,10 +124,8 @@ returns-in_err-check_final_poly g c =
     let fri = c.args.proof.now.fri_proof in
     let batches = batch_claims c.args.claims.now in
     let high = known g (goal.at.returns-in_err-check_final_poly g c).In_ok-log_max_height in
-    ap (result_map_both parts_of (λ e. e))
-    (refused-is c.from_residual-in_err-check_final_poly.result c.in_err-check_final_poly.field-0.0
-    c.from_residual-in_err-check_final_poly.ensures.1)
-    ∙ sym
+    refused parts_of _ c.in_err-check_final_poly.field-0.0
+    c.from_residual-in_err-check_final_poly.ensures.1
     (in-turn g.Val.ComplexExtendable.CIRCLE_TWO_ADICITY _ _ c.args.params.now
     (batch_claims c.args.claims.now) (proof_of c.args.proof.now) _
     ∙ turned _
@@ -146,10 +144,8 @@ returns-in_err-validate_points g c =
     let fri = c.args.proof.now.fri_proof in
     let batches = batch_claims c.args.claims.now in
     let high = known g (goal.at.returns-in_err-validate_points g c).In_ok-log_max_height in
-    ap (result_map_both parts_of (λ e. e))
-    (refused-is c.from_residual-in_err-validate_points.result c.in_err-validate_points.field-0.0
-    c.from_residual-in_err-validate_points.ensures.1)
-    ∙ sym
+    refused parts_of _ c.in_err-validate_points.field-0.0
+    c.from_residual-in_err-validate_points.ensures.1
     (in-turn g.Val.ComplexExtendable.CIRCLE_TWO_ADICITY _ _ c.args.params.now
     (batch_claims c.args.claims.now) (proof_of c.args.proof.now) _
     ∙ turned _

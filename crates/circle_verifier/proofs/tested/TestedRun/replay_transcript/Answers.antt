@@ -9,14 +9,14 @@ use Rattle.circle_transcript.specs.Draw.{widths_of}
 use Rattle.circle_transcript.specs.ShapeOf.{batches_of, shape_of}
 use Rattle.circle_relation.proofs.Described.{claims_widths, shape_is}
 use Rattle.circle_relation.specs.RunOf.{proof_of}
-use Rattle.circle_relation.specs.Taken.{challenges_of}
+use Rattle.circle_relation.specs.Taken.{challenges_of, shape_by}
 use Rattle.circle_verifier.specs.Replay.{AreDrawn}
-use Rattle.circle_verifier.proofs.Replayed.{tested_high, taken_is, redrawn, refused_by}
+use Rattle.circle_verifier.proofs.Replayed.{high-of, taken_is, redrawn, refused_by}
 use Rattle.circle_verifier.proofs.Replayed.{betas-drawn, queries-drawn}
 use Rattle.circle_verifier.proofs.Finite.{finite_from}
 use Rattle.circle_verifier.proofs.tested.TestedRun.replay_transcript.Given.{Over}
 use Rattle.circle_verifier.proofs.tested.TestedRun.replay_transcript.Goals as goal
-use Rattle.circle_verifier.proofs.tested.TestedRun.replay_transcript.Goals.{In-Ok}
+use Rattle.circle_verifier.proofs.tested.TestedRun.replay_transcript.Goals.{After-new-shape, In-Ok}
 
 -- what the challenger is to the transcript
 abbrev run : (g : Over) → RunMoves g.row.C.Denot g.row.C-State.Denot g.row.Val.Denot g.row.EF.Denot
@@ -40,12 +40,7 @@ run g = record {
 
 pub new-shape-requires-clause-high : goal.new-shape-requires-clause-high
 new-shape-requires-clause-high g c =
-    let p = c.args.self.params.now in
-    let t = c.args.self.tested in
-    let high =
-    tested_high p.log_blowup p.log_final_poly_len
-    (all_matrices (batch_claims c.args.self.claims.now)) t.some_matrix t.large in
-    omega (arith, high, c.args.self.top)
+    let high = high-of c.args.self in omega (arith, high)
 
 pub opening_claims-requires : goal.opening_claims-requires
 opening_claims-requires g c =
@@ -66,10 +61,7 @@ verifier_run-requires-clause-claims g c =
 pub verifier_run-requires-clause-small : goal.verifier_run-requires-clause-small
 verifier_run-requires-clause-small g c =
     let t = c.args.self.tested in
-    let p = c.args.self.params.now in
-    let high =
-    tested_high p.log_blowup p.log_final_poly_len
-    (all_matrices (batch_claims c.args.self.claims.now)) t.some_matrix t.large in
+    let high = high-of c.args.self in
     let low = t.in_group in
     let most = g.met.Val.ComplexExtendable.at_most_62 in
     let one = c.extra_query_index_bits-extra_bits.ensures in
@@ -86,16 +78,23 @@ verifier_run-requires-clause-small g c =
           omega (arith, is, high, low, most, c.args.self.top);
     }
 
+-- the shape is the one that the parameters and the claims describe
+described : (g : Over) (c : After-new-shape g) →
+    shape_of c.new-shape.result
+    ≡ shape_by c.args.self.params.now (batch_claims c.args.self.claims.now)
+described g c =
+    shape_is c.args.self.params.now (batch_claims c.args.self.claims.now)
+    (batches_of c.in_ok-widths.widths.items) c.args.self.log_max_height
+    c.extra_query_index_bits-extra_bits.result (shape_of c.new-shape.result)
+    (ap shape_of c.new-shape.ensures) c.in_ok-widths.ensures c.args.self.top
+    c.extra_query_index_bits-extra_bits.ensures
+
 -- what is drawn is what the run draws
 drawn-is : (g : Over) (c : In-Ok g) →
+    shape_of c.new-shape.result
+    ≡ shape_by c.args.self.params.now (batch_claims c.args.self.claims.now) →
     AreDrawn (run g) c.args.self c.args.challenger.now c.in-Ok.draws c.verifier_run.new.challenger
-drawn-is g c =
-    let batches = batch_claims c.args.self.claims.now in
-    let shape = shape_is c.args.self.params.now batches (batches_of c.in_ok-widths.widths.items)
-    c.args.self.log_max_height c.extra_query_index_bits-extra_bits.result
-    (shape_of c.new-shape.result)
-    (ap shape_of c.new-shape.ensures) c.in_ok-widths.ensures c.args.self.top
-    c.extra_query_index_bits-extra_bits.ensures in
+drawn-is g c shape =
     redrawn _ _ _ _ _ _ _ shape
     (taken_is _ _ _ _ _ _ _ _ _ _ _
     (ap claims_of c.deref-4.ensures.value ∙ c.in_ok-claimed.ensures) c.deref.ensures.value
@@ -103,19 +102,20 @@ drawn-is g c =
     c.in-Ok.ensures.draws
 
 pub returns-in-Ok-clause-drawn : goal.returns-in-Ok-clause-drawn
-returns-in-Ok-clause-drawn g c = drawn-is g (goal.at.returns-in-Ok-clause-drawn g c).In-Ok
+returns-in-Ok-clause-drawn g c =
+    let at = goal.at.returns-in-Ok-clause-drawn g c in
+    drawn-is g at.In-Ok (described g at.After-new-shape)
 
 pub invariant_of-result : goal.invariant_of-result
 invariant_of-result g c =
     let t = c.args.self in
     let p = t.params.now in
     let batches = batch_claims t.claims.now in
-    let drawn = drawn-is g c in
-    let high = tested_high p.log_blowup p.log_final_poly_len (all_matrices batches)
-    t.tested.some_matrix t.tested.large in
+    let drawn = drawn-is g c (described g (goal.at.invariant_of-result g c).After-new-shape) in
+    let high = high-of t in
     let bits : c.new-shape.result.index_bits ≡ t.log_max_height =
     let is = ap (λ s. s.index_bits) c.new-shape.ensures in
-    omega (arith, is, c.extra_query_index_bits-extra_bits.ensures, high, t.top) in
+    omega (arith, is, c.extra_query_index_bits-extra_bits.ensures, high) in
     record {
       betas =
           betas-drawn (run g) p g.EF.Operations.ops batches (proof_of t.proof.now) _ _
@@ -129,14 +129,8 @@ invariant_of-result g c =
 
 pub returns-clause-failure : goal.returns-clause-failure
 returns-clause-failure g c =
-    let batches = batch_claims c.args.self.claims.now in
-    let shape = shape_is c.args.self.params.now batches (batches_of c.in_ok-widths.widths.items)
-    c.args.self.log_max_height c.extra_query_index_bits-extra_bits.result
-    (shape_of c.new-shape.result)
-    (ap shape_of c.new-shape.ensures) c.in_ok-widths.ensures c.args.self.top
-    c.extra_query_index_bits-extra_bits.ensures in
     refused_by _ _ _ c.in-Err.failure c.refusal_of.result
-    (redrawn _ _ _ _ _ _ _ shape
+    (redrawn _ _ _ _ _ _ _ (described g (goal.at.returns-clause-failure g c).After-new-shape)
     (taken_is _ _ _ _ _ _ _ _ _ _ _
     (ap claims_of c.deref-4.ensures.value ∙ c.in_ok-claimed.ensures) c.deref.ensures.value
     (c.in_ok-from_slice.ensures.items ∙ c.deref-3.ensures.value) c.deref-2.ensures.value) refl)

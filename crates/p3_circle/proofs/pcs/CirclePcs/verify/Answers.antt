@@ -12,14 +12,16 @@ pub returns-in_err-run-clause-first : goal.returns-in_err-run-clause-first
 returns-in_err-run-clause-first g c =
     let e = c.in_err-run.field-0.0 in
     let first =
-    first-refused c.new.result _ _ _ (rw c.deref.ensures.value at c.new.ensures) e c.in_err-run.was in
+    first-refused c.new.result _ _ _ (rw c.deref.ensures.value at c.new.ensures) e
+    c.in_err-run.was in
     at_err _ _ e first (refused-is c.from_residual.result e c.from_residual.ensures.1, refl)
 
 pub returns-in_err-run-clause-complete : goal.returns-in_err-run-clause-complete
 returns-in_err-run-clause-complete g c =
     let e = c.in_err-run.field-0.0 in
     let first =
-    first-refused c.new.result _ _ _ (rw c.deref.ensures.value at c.new.ensures) e c.in_err-run.was in
+    first-refused c.new.result _ _ _ (rw c.deref.ensures.value at c.new.ensures) e
+    c.in_err-run.was in
     let null = g.Val.Field.ZERO in
     at_err _ _ e (refused-is c.from_residual.result e c.from_residual.ensures.1)
     (λ left a. absurd
@@ -32,7 +34,8 @@ pub returns-in_err-run-clause-reason : goal.returns-in_err-run-clause-reason
 returns-in_err-run-clause-reason g c =
     let e = c.in_err-run.field-0.0 in
     let first =
-    first-refused c.new.result _ _ _ (rw c.deref.ensures.value at c.new.ensures) e c.in_err-run.was in
+    first-refused c.new.result _ _ _ (rw c.deref.ensures.value at c.new.ensures) e
+    c.in_err-run.was in
     at_err _ _ e (refused-is c.from_residual.result e c.from_residual.ensures.1)
     (first-by _ _ e (g.C.ChallengerState.state c.args.challenger.now) first)
 
