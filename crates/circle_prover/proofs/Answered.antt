@@ -1,6 +1,7 @@
 -- What is known of requested matrices, one after another.
 use Rattle.std.specs.Prelude.{◌≡◌, ℕ, ◌^◌, ◌<◌, ◌≤◌, List, [], ◌∷◌, ◌++◌, length, map, flat_map}
-use Rattle.std.specs.Prelude.{zip, All, Result, Ok, Err, IfOk, slice_index_or}
+use Rattle.std.specs.Prelude.{zip, All, Result, Ok, Err, IfOk, IsErrAnd, MatchResult}
+use Rattle.std.specs.Prelude.{slice_index_or}
 use Rattle.std.specs.List.{AllByRecursion, AllZip}
 use Rattle.std.proofs.Common.{sym, ◌∙◌, ap, subst, arith}
 use Rattle.std.proofs.lemmas.List.{get_or-map, length-append, length-map}
@@ -22,6 +23,22 @@ pub if_ok2 : {A E : Type 0} (r : Result A E) (P Q R : A → Type 0) → ((a : A)
     IfOk r P → IfOk r Q → IfOk r R
 if_ok2 (Ok a) P Q R f p q = f a p q
 if_ok2 (Err e) P Q R f p q = tt
+
+-- what is known of a result in either case
+pub matched-both : {A E : Type 0} (r : Result A E) (P Q : A → Type 0) (R S : E → Type 0) →
+    ((a : A) → P a → Q a) → ((e : E) → R e → S e) → MatchResult r P R → MatchResult r Q S
+matched-both (Ok a) P Q R S f g known = f a known
+matched-both (Err e) P Q R S f g known = g e known
+
+pub matched-ok : {A E : Type 0} (r : Result A E) (P : A → Type 0) (R : E → Type 0) →
+    MatchResult r P R → IfOk r P
+matched-ok (Ok a) P R known = known
+matched-ok (Err e) P R known = tt
+
+pub matched-err : {A E : Type 0} (r : Result A E) (e : E) (P : A → Type 0) (R : E → Type 0) →
+    IsErrAnd r (λ x. x ≡ e) → R e → MatchResult r P R
+matched-err (Ok a) e P R same known = elim same [ ]
+matched-err (Err x) e P R same known = subst R (sym same) known
 
 both-known : {A : Type 0} (P : A → Type 0) (xs ys : List A) → AllByRecursion P xs →
     AllByRecursion P ys → AllByRecursion P (xs ++ ys)

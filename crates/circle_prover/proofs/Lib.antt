@@ -17,5 +17,6 @@ pub mod Stuck
 pub mod TallMatrices
 pub mod Threes
 pub mod Tops
+pub mod Transcripts
 pub mod Unrefused
 pub mod Zipped

@@ -1,6 +1,6 @@
 -- Matrices that are opened and leave something to fold, as clauses see them. The dictionary of
 -- their fields is an argument of their type.
-use Rattle.std.specs.Prelude.{◌⊎◌, ◌≡◌, ℕ, ◌-◌, List, map}
+use Rattle.std.specs.Prelude.{◌⊎◌, ◌≡◌, ℕ, ◌-◌, List, map, MatchResult, Result}
 use Rattle.std.specs.Borrow.{Bor}
 use Rattle.circle_challenger.specs.Moves.{RunMoves}
 use Rattle.circle_commit.specs.Mmcs.{greatest}
@@ -13,12 +13,13 @@ use Rattle.circle_relation.specs.declared.error.ProverError.TheVariants.{Memory}
 use Rattle.circle_transcript.specs.Claims.{claims_of}
 use Rattle.circle_transcript.specs.Draw.{seeded}
 use Rattle.circle_transcript.specs.Numbers.{numbers_of}
+use Rattle.circle_transcript.specs.Runs.{Draws}
 use Rattle.circle_transcript.specs.ShapeOf.{shape_of}
 use Rattle.circle_transcript.specs.Transcript.{current, numbers}
 use Rattle.circle_transcript.specs.declared.shape.CirclePcsShape.{CirclePcsShape}
 use Rattle.circle_transcript.specs.declared.transcript.CircleTranscript.{CircleTranscript}
 use Rattle.circle_prover.specs.Failure.{IsStuck, IsTooHigh}
-use Rattle.circle_prover.specs.Words.{AreMade, heights_of, layer_of}
+use Rattle.circle_prover.specs.Words.{AreMade, heights_of, layer_of, taken_in}
 use Rattle.circle_prover.specs.declared.foldable.FoldableMatrices.{FoldableMatrices}
 use Rattle.circle_prover.specs.declared.run.CommittedWords.{CommittedWords}
 
@@ -71,3 +72,11 @@ module _ {F E M : Type 0} {over : _} (o : FoldableMatrices F E M over) where
         ⊎ IsStuck r (Commits o.params.now.mmcs) over.fields o.params.now seen
         (numbers_of (shape_of shape)) (claims_of claims)
         (seeded r (shape_of shape) (r.base.state challenger)) e
+
+    -- the run is played, from the one challenger, and leaves the other; or this is why not
+    abbrev pub IsOutcome : {D : Type 0} → CirclePcsShape → C
+        → Result (CommittedWords F E Com D) ProverError → C → Type 0
+    IsOutcome shape old result new =
+        MatchResult result
+        (λ w. Draws r shape (taken_in (claims_of claims) w) old w.draws new)
+        (IsShapeFailure shape old)

@@ -105,6 +105,10 @@ module _ {F E I W IC ID IP IE WC WD WP WE : Type 0} {over inputs ic ip ie words 
             ⊎ IsStuckOn over.fields r p (words.commits p.mmcs) inputs.matrices o.requests.now
             values (r.base.state old) e
 
+        abbrev pub IsOutcome : C → Result (CommittedWords F E WC WD) ProverError → C → Type 0
+        IsOutcome old result new =
+            MatchResult result (λ made. IsPlayed old made new) (IsNotPlayed old)
+
     -- what was made are the codewords of some matrices that leave something to fold
     abbrev pub AreSomeWordsOf : CommittedWords F E WC WD → Type 0
     AreSomeWordsOf = AreSomeWords over.fields words.commits words.matrices o.params.now

@@ -7,7 +7,7 @@ ghost use Rattle.circle_prover.specs.Opening.{AreEasy};
 ghost use Rattle.circle_codewords.specs.Requests.{AreHeights, OpensBatches};
 ghost use Rattle.circle_prover.specs.OfRequests.{AreAnsweredBy, AreSomeWordsOf, AreWordsWith};
 ghost use Rattle.circle_prover.specs.OfRequests.{HoldsInputsAt, HoldsWordsOf, IsFailureFrom};
-ghost use Rattle.circle_prover.specs.OfRequests.{IsNotPlayed, IsOpeningBy, IsPlayed};
+ghost use Rattle.circle_prover.specs.OfRequests.{IsOpeningBy, IsOutcome};
 ghost use Rattle.circle_relation.specs.Taken.{claims_taken, taken_by};
 ghost use Rattle.circle_prover.specs.Words.{taken_in};
 
@@ -48,12 +48,9 @@ impl<
             All (λ q. q < 2 ^ w.log_max_height) w.draws.indices.items) }
         ensures some { IfOk result (λ w. 1 ≤ length w.draws.indices.items) }
         ensures easy { IfOk result (λ w. AreEasy self.now.params.now Val.ops w.witnesses) }
-        ensures draws { let m = ⟦<C as RunChallenger<Val, EF, FriMmcs::Commitment>>⟧.run in
-            IfOk result (λ w.
-            IsPlayed self.now (openings values.now) m challenger.old w challenger.new) }
         ensures words { IfOk result (AreWordsWith self.now (openings values.now)) }
-        ensures failure { let m = ⟦<C as RunChallenger<Val, EF, FriMmcs::Commitment>>⟧.run in
-            IfErr result (IsNotPlayed self.now (openings values.now) m challenger.old) }
+        ensures outcome { let m = ⟦<C as RunChallenger<Val, EF, FriMmcs::Commitment>>⟧.run in
+            IsOutcome self.now (openings values.now) m challenger.old result challenger.new }
     {
         let matrices = self.opened_matrices(alloc, values)?;
         let claims = opened_claims(alloc, &matrices)?;

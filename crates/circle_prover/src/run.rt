@@ -4,11 +4,11 @@ ghost use Rattle.std.specs.Prelude.{IfOk, IfErr, OnOk};
 ghost use Rattle.circle_transcript.specs.Claims.{claims_of};
 ghost use Rattle.circle_transcript.specs.Draw.{widths_of};
 ghost use Rattle.circle_transcript.specs.Numbers.{indices_steps, numbers_of, run_steps};
-ghost use Rattle.circle_transcript.specs.Runs.{ArePlayable, Draws, DrawsFrom};
+ghost use Rattle.circle_transcript.specs.Runs.{ArePlayable, DrawsFrom};
 ghost use Rattle.circle_transcript.specs.Shape.{claimed_widths};
 ghost use Rattle.circle_transcript.specs.ShapeOf.{shape_of};
 ghost use Rattle.circle_transcript.specs.Transcript.{due, numbers, run_of, IsSame};
-ghost use Rattle.circle_prover.specs.OfFoldable.{AreMadeOf, IsRunFailure, IsShapeFailure};
+ghost use Rattle.circle_prover.specs.OfFoldable.{AreMadeOf, IsOutcome, IsRunFailure};
 ghost use Rattle.circle_prover.specs.OfFoldable.{round_count};
 ghost use Rattle.circle_prover.specs.Folding.{AreRoundsOver, IsBegun, IsFoldFailure, IsFoldedLayer};
 ghost use Rattle.circle_prover.specs.Folding.{folding_steps};
@@ -239,11 +239,9 @@ impl<F: ComplexExtendable, EF: ExtensionField<F>, M: Mmcs<EF>> FoldableMatrices<
             All (λ a. a ≡ F.ops.zero) w.witnesses.rounds.items) }
         ensures easy_query { IfOk result (λ w.
             shape.query_pow_bits ≡ 0 → w.witnesses.query ≡ F.ops.zero) }
-        ensures draws { IfOk result (λ w. Draws ⟦<C as RunChallenger<F, EF, M::Commitment>>⟧.run
-            shape (taken_in (claims_of claims.now) w) challenger.old w.draws challenger.new) }
         ensures words { IfOk result (AreMadeOf self.now M.commits M.matrices) }
-        ensures failure { let m = ⟦<C as RunChallenger<F, EF, M::Commitment>>⟧.run in
-            IfErr result (IsShapeFailure self.now m M.commits claims.now shape challenger.old) }
+        ensures outcome { IsOutcome self.now ⟦<C as RunChallenger<F, EF, M::Commitment>>⟧.run
+            M.commits claims.now shape challenger.old result challenger.new }
     {
         let seeded = CircleProverTranscript::<C, F, EF, M::Commitment>::seeded(
             alloc, challenger, shape,

@@ -7,6 +7,7 @@ use Rattle.circle_transcript.proofs.Phases.{missed_in}
 use Rattle.circle_transcript.proofs.Playing.{handed_on, unwrap_none}
 use Rattle.circle_relation.specs.Failures.{prover_error}
 use Rattle.circle_prover.specs.OfFoldable.{IsRunFailure, fields_of, seen}
+use Rattle.circle_prover.proofs.Transcripts.{same-both}
 use Rattle.circle_prover.proofs.TallMatrices.{heights-fit, tall-seen}
 use Rattle.circle_prover.proofs.Tops.{folds-are, some-heights}
 use Rattle.circle_prover.proofs.foldable.FoldableMatrices.fold_layer.Goals as goal
@@ -50,18 +51,12 @@ pub returns-in_err-layer-clause-same : goal.returns-in_err-layer-clause-same
 returns-in_err-layer-clause-same g c = c.batch_phase.ensures.same
 
 pub returns-in_err-tallest-clause-same : goal.returns-in_err-tallest-clause-same
-returns-in_err-tallest-clause-same g c = record {
-  challenger = c.first_layer-bivariate.ensures.same.challenger
-      ∙ c.batch_phase.ensures.same.challenger;
-  shape = c.first_layer-bivariate.ensures.same.shape ∙ c.batch_phase.ensures.same.shape;
-}
+returns-in_err-tallest-clause-same g c =
+    same-both _ _ _ c.batch_phase.ensures.same c.first_layer-bivariate.ensures.same
 
 pub returns-clause-same : goal.returns-clause-same
-returns-clause-same g c = record {
-  challenger = c.first_layer-bivariate.ensures.same.challenger
-      ∙ c.batch_phase.ensures.same.challenger;
-  shape = c.first_layer-bivariate.ensures.same.shape ∙ c.batch_phase.ensures.same.shape;
-}
+returns-clause-same g c =
+    same-both _ _ _ c.batch_phase.ensures.same c.first_layer-bivariate.ensures.same
 
 pub returns-clause-due : goal.returns-clause-due
 returns-clause-due g c =

@@ -1,4 +1,4 @@
-use Rattle.std.proofs.Common.{◌<◌, ◌^◌, All, rules, sym, ap, ◌∙◌, subst, inl, inr}
+use Rattle.std.proofs.Common.{◌<◌, ◌^◌, All, refl, rules, sym, ap, ◌∙◌, subst, inl, inr}
 use Rattle.circle_field.specs.Field.{of_nat}
 use Rattle.circle_challenger.specs.Moves.{RunMoves, run_moves}
 use Rattle.circle_transcript.specs.Claims.{claims_of}
@@ -10,6 +10,8 @@ use Rattle.circle_transcript.proofs.Playing.{or_moved}
 use Rattle.circle_prover.specs.Failure.{IsStuck}
 use Rattle.circle_prover.specs.OfFoldable.{fields_of, round_count, seen}
 use Rattle.circle_prover.specs.Words.{taken_in}
+use Rattle.circle_relation.specs.declared.error.ProverError.TheVariants.{Memory}
+use Rattle.circle_prover.proofs.Answered.{matched-err}
 use Rattle.circle_prover.proofs.Stuck.{drawn-moved}
 use Rattle.circle_prover.proofs.foldable.FoldableMatrices.open.Given.{Over}
 use Rattle.circle_prover.proofs.foldable.FoldableMatrices.open.Goals as goal
@@ -23,16 +25,16 @@ challenger g = run_moves g.C.ChallengerState.state g.C.CanObserve-1.after_observ
     g.EF.ExtensionField.DEGREE g.EF.ExtensionField.coefficients (of_nat g.F.Operations.ops)
     g.F.Operations.ops.zero
 
-pub returns-in-Ok-clause-draws : goal.returns-in-Ok-clause-draws
-returns-in-Ok-clause-draws g c =
+pub returns-in-Ok-clause-outcome : goal.returns-in-Ok-clause-outcome
+returns-in-Ok-clause-outcome g c =
     drawn-moved (challenger g) _ _ (taken_in (claims_of c.args.claims.now) c.in-Ok.words) _ _
     g.EF.ExtensionField.coefficients c.in-Ok.words.draws g.C.ChallengerState.state _ _
     (c.of_seeded-transcript.ensures.shape ∙ c.in_ok-seeded.ensures.shape)
     (ap g.C.ChallengerState.state c.of_seeded-transcript.ensures.same
     ∙ c.in_ok-seeded.ensures.state) (search rules) c.in-Ok.ensures.draws
 
-pub returns-in-Err-clause-failure : goal.returns-in-Err-clause-failure
-returns-in-Err-clause-failure g c =
+pub returns-in-Err-clause-outcome : goal.returns-in-Err-clause-outcome
+returns-in-Err-clause-outcome g c =
     elim c.in-Err.ensures.failure [
       | inl refused ↦ inl refused
       | inr rest ↦ inr
@@ -44,6 +46,10 @@ returns-in-Err-clause-failure g c =
           (ap g.C.ChallengerState.state c.of_seeded-transcript.ensures.same
           ∙ c.in_ok-seeded.ensures.state) rest)
     ]
+
+pub returns-in_err-seeded-clause-outcome : goal.returns-in_err-seeded-clause-outcome
+returns-in_err-seeded-clause-outcome g c =
+    matched-err c.from_residual.result Memory _ _ c.from_residual.ensures.1 (inl refl)
 
 pub play-requires-clause-next : goal.play-requires-clause-next
 play-requires-clause-next g c =

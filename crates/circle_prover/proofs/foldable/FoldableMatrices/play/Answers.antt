@@ -17,6 +17,7 @@ use Rattle.circle_relation.specs.Failures.{prover_error}
 use Rattle.circle_prover.specs.Folding.{word_of}
 use Rattle.circle_prover.specs.OfFoldable.{IsRunFailure, fields_of}
 use Rattle.circle_prover.proofs.Begun.{all-drawn, stuck-in-query, stuck-in-rounds}
+use Rattle.circle_prover.proofs.Transcripts.{same-both}
 use Rattle.circle_prover.proofs.TallMatrices.{top-is}
 use Rattle.circle_prover.proofs.foldable.FoldableMatrices.play.Goals as goal
 
@@ -55,26 +56,18 @@ pub returns-in_err-first-clause-same : goal.returns-in_err-first-clause-same
 returns-in_err-first-clause-same g c = c.fold_layer.ensures.same
 
 pub returns-in_err-rounds-clause-same : goal.returns-in_err-rounds-clause-same
-returns-in_err-rounds-clause-same g c = record {
-  challenger = c.fold_rounds.ensures.same.challenger ∙ c.fold_layer.ensures.same.challenger;
-  shape = c.fold_rounds.ensures.same.shape ∙ c.fold_layer.ensures.same.shape;
-}
+returns-in_err-rounds-clause-same g c =
+    same-both _ _ _ c.fold_layer.ensures.same c.fold_rounds.ensures.same
 
 pub returns-in_err-indices-clause-same : goal.returns-in_err-indices-clause-same
-returns-in_err-indices-clause-same g c = record {
-  challenger = c.query_phase.ensures.same.challenger ∙ c.fold_rounds.ensures.same.challenger
-      ∙ c.fold_layer.ensures.same.challenger;
-  shape = c.query_phase.ensures.same.shape ∙ c.fold_rounds.ensures.same.shape
-      ∙ c.fold_layer.ensures.same.shape;
-}
+returns-in_err-indices-clause-same g c =
+    same-both _ _ _ c.fold_layer.ensures.same
+    (same-both _ _ _ c.fold_rounds.ensures.same c.query_phase.ensures.same)
 
 pub returns-clause-same : goal.returns-clause-same
-returns-clause-same g c = record {
-  challenger = c.query_phase.ensures.same.challenger ∙ c.fold_rounds.ensures.same.challenger
-      ∙ c.fold_layer.ensures.same.challenger;
-  shape = c.query_phase.ensures.same.shape ∙ c.fold_rounds.ensures.same.shape
-      ∙ c.fold_layer.ensures.same.shape;
-}
+returns-clause-same g c =
+    same-both _ _ _ c.fold_layer.ensures.same
+    (same-both _ _ _ c.fold_rounds.ensures.same c.query_phase.ensures.same)
 
 pub returns-in_err-rounds-clause-failure : goal.returns-in_err-rounds-clause-failure
 returns-in_err-rounds-clause-failure g c =

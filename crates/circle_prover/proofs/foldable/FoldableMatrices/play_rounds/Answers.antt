@@ -11,6 +11,7 @@ use Rattle.circle_prover.specs.OfFoldable.{fields_of}
 use Rattle.circle_prover.specs.Failure.{IsRoundsFailure}
 use Rattle.circle_relation.specs.declared.error.ProverError.TheVariants.{Memory}
 use Rattle.circle_prover.specs.Words.{word_at}
+use Rattle.circle_prover.proofs.Transcripts.{same-both}
 use Rattle.circle_prover.proofs.Growing.{word_at-kept, word_at-next, rounds_begun, rounds_more}
 use Rattle.circle_prover.proofs.Growing.{played_begun, played_more, stuck_after, words_committed}
 use Rattle.circle_prover.proofs.foldable.FoldableMatrices.play_rounds.Goals as goal
@@ -109,10 +110,7 @@ loop-i-preserved g c =
     let same_bits = ap (λ v. v.commit_pow_bits) before.same.shape in
     let is_word = ap (λ v. v.items) added.word in
     record {
-      same = record {
-        challenger = c.play_round.ensures.same.challenger ∙ before.same.challenger;
-        shape = c.play_round.ensures.same.shape ∙ before.same.shape;
-      };
+      same = same-both _ _ _ before.same c.play_round.ensures.same;
       due =
           λ rest e. played.due _ (next_round degree bits _ n i rest _ same_bits within
           (before.due rest e));
@@ -171,16 +169,12 @@ pub play_round-requires-clause-words : goal.play_round-requires-clause-words
 play_round-requires-clause-words g c = c.requires.words
 
 pub returns-in_err-round-clause-same : goal.returns-in_err-round-clause-same
-returns-in_err-round-clause-same g c = record {
-  challenger = c.play_round.ensures.same.challenger ∙ c.loop-i.invariant.same.challenger;
-  shape = c.play_round.ensures.same.shape ∙ c.loop-i.invariant.same.shape;
-}
+returns-in_err-round-clause-same g c =
+    same-both _ _ _ c.loop-i.invariant.same c.play_round.ensures.same
 
 pub returns-in_err-word-clause-same : goal.returns-in_err-word-clause-same
-returns-in_err-word-clause-same g c = record {
-  challenger = c.play_round.ensures.same.challenger ∙ c.loop-i.invariant.same.challenger;
-  shape = c.play_round.ensures.same.shape ∙ c.loop-i.invariant.same.shape;
-}
+returns-in_err-word-clause-same g c =
+    same-both _ _ _ c.loop-i.invariant.same c.play_round.ensures.same
 
 pub returns-clause-same : goal.returns-clause-same
 returns-clause-same g c = c.loop-i.invariant.same

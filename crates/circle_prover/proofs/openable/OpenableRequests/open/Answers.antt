@@ -84,7 +84,7 @@ returns-clause-proof g c =
           (g.C.ChallengerState.state c.args.challenger.now)
           (Ok (drawn_of g.EF.ExtensionField.coefficients w.draws end)) refl
           (sym (c.in_ok-proof.ensures.taken claims))
-          (rw c.deref.ensures.value at c.in_ok-words.ensures.draws);
+          (rw c.deref.ensures.value at c.in_ok-words.ensures.outcome);
       words = c.in_ok-proof.ensures.words (seen_with o values) known c.in_ok-words.ensures.easy;
       inputs =
           subst
@@ -101,7 +101,7 @@ returns-in_err-words-clause-failure g c =
     handed_on c.from_residual-in_err-words.result c.in_err-words.field-0.0
     (IsFailureFrom o (challenger g) c.args.challenger.now)
     c.from_residual-in_err-words.ensures.1
-    (elim (rw c.deref.ensures.value at c.in_err-words.ensures.failure) [
+    (elim (rw c.deref.ensures.value at c.in_err-words.ensures.outcome) [
       | inl refused ↦ inl refused
       | inr rest ↦ inr (values, c.in_ok-values.ensures, rest)
     ])

@@ -1,5 +1,5 @@
 use Rattle.std.proofs.Common.{◌≡◌, ◌+◌, ◌<◌, ◌≤◌, ◌^◌, All, map, flat_map, sym, ap, ◌∙◌, subst}
-use Rattle.std.proofs.Common.{arith, inl, inr}
+use Rattle.std.proofs.Common.{arith, refl, inl, inr}
 use Rattle.std.specs.Prelude.{IfOk, Ok}
 use Rattle.circle_challenger.specs.Moves.{RunMoves, run_moves}
 use Rattle.circle_commit.specs.Pcs.{openings}
@@ -7,9 +7,8 @@ use Rattle.circle_codewords.specs.Words.{committed_of}
 use Rattle.circle_field.specs.Field.{of_nat}
 use Rattle.circle_relation.specs.Taken.{claims_taken, shape_by}
 use Rattle.circle_relation.proofs.Described.{claims_widths, shape_is}
-use Rattle.circle_relation.proofs.Results.{if_err}
 use Rattle.circle_transcript.specs.Claims.{claims_of}
-use Rattle.circle_transcript.specs.Draw.{draw, seeded, widths_of}
+use Rattle.circle_transcript.specs.Draw.{seeded, widths_of}
 use Rattle.circle_transcript.specs.Numbers.{numbers_of}
 use Rattle.circle_transcript.specs.Runs.{drawn_of}
 use Rattle.circle_transcript.specs.ShapeOf.{batches_of, shape_of}
@@ -17,7 +16,8 @@ use Rattle.circle_prover.specs.Failure.{IsStuck, IsTooHigh}
 use Rattle.circle_prover.specs.OfRequests.{claims_with, fields_of, seen_with}
 use Rattle.circle_prover.specs.Words.{taken_in, top_of}
 use Rattle.circle_prover.specs.declared.run.CommittedWords.{CommittedWords}
-use Rattle.circle_prover.proofs.Answered.{if_ok2}
+use Rattle.circle_relation.specs.declared.error.ProverError.TheVariants.{Memory}
+use Rattle.circle_prover.proofs.Answered.{if_ok2, matched-both, matched-err, matched-ok}
 use Rattle.circle_relation.proofs.Counts.{queries-count}
 use Rattle.circle_prover.proofs.KnownRequests.{listed-tall, taken-listed, top-high, top-listed}
 use Rattle.circle_prover.proofs.KnownRequests.{top-low}
@@ -113,12 +113,13 @@ returns-clause-below g c =
 pub returns-clause-some : goal.returns-clause-some
 returns-clause-some g c =
     let is = ap (λ s. s.num_queries) c.new-shape.ensures in
+    let drawn = matched-ok c.open.result _ _ c.open.ensures.outcome in
     if_ok2 c.open.result _ _ _
     (λ w drawn again.
     let count = queries-count (challenger g) (numbers_of (shape_of c.new-shape.result))
     (taken_in (claims_of c.deref-4.result.now) w) _ _ drawn in
     omega (arith, count, is, c.args.self.now.fit.queries))
-    c.open.ensures.draws c.open.ensures.draws
+    drawn drawn
 
 pub returns-clause-easy : goal.returns-clause-easy
 returns-clause-easy g c =
@@ -146,35 +147,6 @@ returns-clause-easy g c =
     (λ w first second. (first, second)) c.open.ensures.easy_batch
     c.open.ensures.easy_rounds) c.open.ensures.easy_query
 
-pub returns-clause-draws : goal.returns-clause-draws
-returns-clause-draws g c =
-    let o = c.args.self.now in
-    let values = openings c.args.values.now in
-    let p = o.params.now in
-    let r = challenger g in
-    let l = g.EF.Operations.ops in
-    let claims = claims_with o values in
-    let list = c.in_ok-matrices.matrices.items in
-    let taken = ap claims_of c.deref-4.ensures.value
-    ∙ taken-listed o values l list _ c.in_ok-matrices.ensures
-    (rw c.deref.ensures.value at c.in_ok-claims.ensures) in
-    let high = (rw c.deref-2.ensures.value at c.greatest_height-top.ensures)
-    ∙ top-listed o values list c.in_ok-matrices.ensures ∙ sym (top-with o values) in
-    let shape = shape_is p claims (batches_of c.in_ok-widths.widths.items)
-    c.greatest_height-top.result c.extra_query_index_bits-extra_bits.result
-    (shape_of c.new-shape.result) (ap shape_of c.new-shape.ensures)
-    (c.in_ok-widths.ensures ∙ sym (widths-with o values c.requires.values)) high
-    c.extra_query_index_bits-extra_bits.ensures in
-    let s = g.C.ChallengerState.state c.args.challenger.now in
-    let end = g.C.ChallengerState.state c.open.new.challenger in
-    if_ok2 c.open.result _ _ _
-    (λ w drawn again.
-    draw-moved r (shape_of c.new-shape.result) (shape_by p claims)
-    (taken_in (claims_of c.deref-4.result.now) w) (taken_in (claims_taken l claims) w) s
-    (Ok (drawn_of g.EF.ExtensionField.coefficients w.draws end)) shape
-    (ap (λ cs. taken_in cs w) taken) drawn)
-    c.open.ensures.draws c.open.ensures.draws
-
 pub returns-clause-words : goal.returns-clause-words
 returns-clause-words g c =
     let o = c.args.self.now in
@@ -182,8 +154,22 @@ returns-clause-words g c =
     ∙ c.in_ok-matrices.ensures in
     rw are at c.open.ensures.words
 
-pub returns-clause-failure : goal.returns-clause-failure
-returns-clause-failure g c =
+pub returns-in_err-matrices-clause-outcome : goal.returns-in_err-matrices-clause-outcome
+returns-in_err-matrices-clause-outcome g c =
+    matched-err c.from_residual.result Memory _ _ c.from_residual.ensures.1 (inl refl)
+
+pub returns-in_err-claims-clause-outcome : goal.returns-in_err-claims-clause-outcome
+returns-in_err-claims-clause-outcome g c =
+    matched-err c.from_residual-in_err-claims.result Memory _ _
+    c.from_residual-in_err-claims.ensures.1 (inl refl)
+
+pub returns-in_err-widths-clause-outcome : goal.returns-in_err-widths-clause-outcome
+returns-in_err-widths-clause-outcome g c =
+    matched-err c.from_residual-in_err-widths.result Memory _ _
+    c.from_residual-in_err-widths.ensures.1 (inl refl)
+
+pub returns-clause-outcome : goal.returns-clause-outcome
+returns-clause-outcome g c =
     let o = c.args.self.now in
     let values = openings c.args.values.now in
     let p = o.params.now in
@@ -207,7 +193,13 @@ returns-clause-failure g c =
     let flat = seen_with o values in
     let are = ap (map (committed_of k p.log_blowup)) c.deref-3.ensures.value
     ∙ c.in_ok-matrices.ensures in
-    if_err _ _ c.open.result
+    let end = g.C.ChallengerState.state c.open.new.challenger in
+    matched-both c.open.result _ _ _ _
+    (λ w drawn.
+    draw-moved r (shape_of c.new-shape.result) (shape_by p claims)
+    (taken_in (claims_of c.deref-4.result.now) w) (taken_in (claims_taken l claims) w) s
+    (Ok (drawn_of g.EF.ExtensionField.coefficients w.draws end)) shape
+    (ap (λ cs. taken_in cs w) taken) drawn)
     (λ e why.
     elim why [
       | inl refused ↦ inl refused
@@ -230,4 +222,4 @@ returns-clause-failure g c =
                 stuck))))
           ]
     ])
-    c.open.ensures.failure
+    c.open.ensures.outcome
