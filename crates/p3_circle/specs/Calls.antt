@@ -37,7 +37,7 @@ abbrev pub IsAnswer : {S E P : Type 0} → (S → Openings E → P → S → Typ
     → Vec (Vec (Vec (Vec E Global) Global) Global) Global × P → Type 0
 IsAnswer Gives old new answer = Gives old (openings answer.0.items) answer.1 new
 
--- over a field with the generators of its circle's group, whatever the extension
+-- fields with this base field and these generators of its circle's group, whatever the extension
 abbrev pub IsOver : {F E : Type 0} → FieldOps F → (ℕ → Coordinates F) → Fields F E → Type 0
 IsOver f gen k = (k.field ≡ f) × (k.gen ≡ gen)
 

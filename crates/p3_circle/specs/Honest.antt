@@ -71,11 +71,12 @@ module _ {F E : Type 0} {g : _} (f : FieldOps F) (gen : ℕ → Coordinates F) (
   AreBatchValues batch points values =
       AllZip (λ given rest. AreRowValues given rest.0 rest.1) batch (zip points values)
 
--- the same over fields
+-- likewise over fields
 abbrev pub AreValuesOfRows : {F E : Type 0} {g : _} → Fields F E
     → CircleDomain F g × RowMajorMatrix F → List E → List (List E) → Type 0
 AreValuesOfRows k = AreRowValues k.field k.gen k.extension k.embed
 
+-- and of a batch
 abbrev pub AreValuesOfBatch : {F E : Type 0} {g : _} → Fields F E
     → List (CircleDomain F g × RowMajorMatrix F) → List (List E) → List (List (List E)) → Type 0
 AreValuesOfBatch k = AreBatchValues k.field k.gen k.extension k.embed

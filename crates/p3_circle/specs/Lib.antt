@@ -2,7 +2,6 @@ pub mod Calls
 pub mod Committing
 pub mod Constant
 pub mod Honest
-pub mod Members
 pub mod Scheme
 pub mod SchemeFacts
 pub mod SchemeLaws

@@ -4,12 +4,15 @@ ghost use Rattle.circle_plane.specs.PeriodicColumns.{IsRefusedOn, IsTableOn};
 ghost use Rattle.p3_circle.specs.Committing.{AreExtensions, AreValuesOfMatrix, HaveRowsForPoints};
 ghost use Rattle.p3_circle.specs.Committing.{commit_tests, evaluation_tests, lde_tests};
 ghost use Rattle.p3_circle.specs.Committing.{target_tests_at};
-ghost use Rattle.p3_circle.specs.Honest.{AreBatchValues, IsHonestBatch};
-ghost use Rattle.p3_circle.specs.Members.{FindsWitnessesBy, IsAcceptedBy, IsGivenBy, IsRefusedBy};
-ghost use Rattle.p3_circle.specs.Members.{IsUnopenedBy};
+ghost use Rattle.p3_circle.specs.Honest.{AreBatchValues, FindsWitnesses, IsHonestBatch};
+ghost use Rattle.circle_prover.specs.Opening.{IsFailure};
+ghost use Rattle.circle_prover.specs.Requesting.{opening_tests};
+ghost use Rattle.circle_verifier.specs.Tests.{run_tests};
 ghost use Rattle.p3_circle.specs.Scheme.{AreCommittedTo, AreExtended, CanBeDegree, CanBeEvaluated};
-ghost use Rattle.p3_circle.specs.Scheme.{HaveCommittedHeights, IsCommitted, IsFirstOf};
-ghost use Rattle.p3_circle.specs.Scheme.{IsStandardOfSize, says_memory, says_prover_memory};
+ghost use Rattle.p3_circle.specs.Scheme.{HaveCommittedHeights, IsCommitted, IsFirstFrom, IsFirstOf};
+ghost use Rattle.p3_circle.specs.Scheme.{IsGiven, IsStandardOfSize, says_memory};
+ghost use Rattle.p3_circle.specs.Scheme.{says_prover_memory};
+ghost use Rattle.p3_circle.specs.Verdict.{IsAccepted, IsRefused};
 ghost use Rattle.p3_circle.specs.Calls.{IsAnswer, IsOfMemoryIf};
 ghost use Rattle.circle_domain.specs.Domain.{log_size};
 ghost use Rattle.std.specs.Prelude.{◌+◌, ◌-◌, ◌^◌, min, IfErr, IfOk, OnOk};
@@ -70,22 +73,35 @@ where
 
     ghost values_of = { λ pcs. AreBatchValues Val.ops Val.generators EF.ops EF.embed };
 
-    ghost finds_witnesses = { FindsWitnessesBy
-        ⟦<C as OpeningOver<Val, EF, InputMmcs, FriMmcs>>⟧.schemes };
+    ghost finds_witnesses = { λ pcs.
+        let o = ⟦<C as OpeningOver<Val, EF, InputMmcs, FriMmcs>>⟧.schemes in
+        FindsWitnesses o.fields o.run pcs.fri_params (FriMmcs.commits pcs.fri_params.mmcs)
+        InputMmcs.matrices };
 
     ghost open_asks = { λ pcs. HaveCommittedHeights InputMmcs.matrices };
 
-    ghost open_gives = { IsGivenBy ⟦<C as OpeningOver<Val, EF, InputMmcs, FriMmcs>>⟧.schemes };
+    ghost open_gives = { λ pcs.
+        let o = ⟦<C as OpeningOver<Val, EF, InputMmcs, FriMmcs>>⟧.schemes in
+        IsGiven pcs.fri_params InputMmcs.matrices o.fields o.run (InputMmcs.commits pcs.mmcs)
+        (InputMmcs.authenticates pcs.mmcs) (FriMmcs.commits pcs.fri_params.mmcs)
+        (FriMmcs.authenticates pcs.fri_params.mmcs) Val.CIRCLE_TWO_ADICITY };
 
-    ghost open_refuses = { IsUnopenedBy
-        ⟦<C as OpeningOver<Val, EF, InputMmcs, FriMmcs>>⟧.schemes };
+    ghost open_refuses = { λ pcs requests old.
+        let o = ⟦<C as OpeningOver<Val, EF, InputMmcs, FriMmcs>>⟧.schemes in
+        IsFirstFrom (opening_tests InputMmcs.matrices requests Val.CIRCLE_TWO_ADICITY
+        pcs.fri_params o.fields EF.eq) (IsFailure o.fields o.run pcs.fri_params
+        (FriMmcs.commits pcs.fri_params.mmcs) InputMmcs.matrices requests old) old };
 
-    ghost verify_accepts = { IsAcceptedBy
-        ⟦<C as OpeningOver<Val, EF, InputMmcs, FriMmcs>>⟧.schemes };
+    ghost verify_accepts = { λ pcs claims proof.
+        let o = ⟦<C as OpeningOver<Val, EF, InputMmcs, FriMmcs>>⟧.schemes in
+        IsAccepted o.fields o.run InputMmcs.authenticates FriMmcs.authenticates pcs.mmcs
+        pcs.fri_params claims proof };
 
-    ghost verify_refuses = { λ pcs claims proof. IsRefusedBy
-        ⟦<C as OpeningOver<Val, EF, InputMmcs, FriMmcs>>⟧.schemes pcs claims proof
-        InputMmcs.is_memory FriMmcs.is_memory };
+    ghost verify_refuses = { λ pcs claims proof old new.
+        let o = ⟦<C as OpeningOver<Val, EF, InputMmcs, FriMmcs>>⟧.schemes in
+        IsFirstFrom (run_tests o.fields pcs.fri_params claims proof) (IsRefused o.fields o.run
+        InputMmcs.authenticates FriMmcs.authenticates pcs.mmcs pcs.fri_params claims proof
+        InputMmcs.is_memory FriMmcs.is_memory old new) old new };
 
     ghost is_memory = { says_memory };
 

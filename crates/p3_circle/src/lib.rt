@@ -47,10 +47,9 @@
 //! Its files:
 //!
 //! - In `specs/`, `Verdict`: what is accepted and refused. `Honest`: an honest statement. `Scheme`:
-//!   calls as relations of lists and states; `Members`: the same by the record of an opening's
-//!   fields, challenger and schemes; `SchemeFacts`, `SchemeLaws` and the folder `SchemeLaws`: the
-//!   proofs of the traits' laws. `Calls`: names that clauses use. `Constant`: folding to a constant.
-//!   `Searches`: an example of searches.
+//!   calls as relations of lists and states; `SchemeFacts`, `SchemeLaws` and the folder
+//!   `SchemeLaws`: the proofs of the traits' laws. `Calls`: names that clauses use. `Constant`:
+//!   folding to a constant. `Searches`: an example of searches.
 //! - In `proofs/`, `InOrder`, `Scheme`: tests. `Verdicts`: the result of `verify`. `Degrees`: a
 //!   last codeword of too high degree. `OwnRows`: the rows that codewords are combined of.
 //!   `Constants`, `ConstantSeeds`.

@@ -140,6 +140,7 @@ module _ {F E M : Type 0} {g : Ghosts F} (f : FieldOps F) (gen : ℕ → Coordin
 module _ {F E M : Type 0} {g : Ghosts F} (k : Fields F E) (same : E → E → Bool)
     (law : (a b : E) → (same a b ≡ true) ↔ (a ≡ b)) (two : ℕ) (small : two ≤ 62)
     (p : FriParameters M) where
+  -- rows on a domain and points of theirs
   abbrev CanOpen : CircleDomain F g × RowMajorMatrix F → List E → Type 0
   CanOpen = CanBeOpenedAt k.field k.gen k.extension k.embed two p
 
