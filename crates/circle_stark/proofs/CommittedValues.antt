@@ -1,6 +1,6 @@
 -- The values of a committed trace on a standard domain are those of the polynomials of its rows.
 use Rattle.std.specs.Prelude.{◌≡◌, ℕ, ◌+◌, ◌-◌, ◌^◌, ◌≤◌, ◌<◌, List, [], ◌∷◌, length, map, take}
-use Rattle.std.proofs.Common.{sym, ◌∙◌, ap, subst, arith, ⊎_elim}
+use Rattle.std.proofs.Common.{sym, ◌∙◌, ap, refl, subst, arith, ⊎_elim}
 use Rattle.std.proofs.lemmas.Bool.{cases_eq}
 use Rattle.std.proofs.lemmas.List.{length-map, take-map}
 use Rattle.circle_field.specs.Field.{FieldOps, FieldLaws}
@@ -110,6 +110,14 @@ module _ {F : Type 0} {g : Ghosts F} {k : FieldOps F} (base : FieldLaws k) {gen 
         ∙ ap (λ c. map (values_at k c (width_of given)) (natural_order k gen m (gen (m + 1))))
         (extension.only coeffs f);
   }
+
+-- one matrix is kept of one matrix
+pub one-kept : {F : Type 0} {g : Ghosts F} (k : FieldOps F) (gen : ℕ → Coordinates F) (blowup : ℕ)
+    (given : CircleDomain F g × RowMajorMatrix F) (matrices : List (RowMajorMatrix F)) →
+    AreExtensions k gen blowup (given ∷ []) matrices → length matrices ≡ 1
+one-kept k gen blowup given [] extended = absurd extended
+one-kept k gen blowup given (kept ∷ []) extended = refl
+one-kept k gen blowup given (kept ∷ other ∷ rest) extended = absurd extended.1
 
 -- of what is kept of one trace
 module _ {F : Type 0} {g : Ghosts F} {k : FieldOps F} (base : FieldLaws k)

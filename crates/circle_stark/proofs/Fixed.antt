@@ -18,7 +18,6 @@ use Rattle.circle_quotient.specs.Window.{IsWindowOf, selectors_at}
 use Rattle.circle_commit.specs.DotProduct.{dot}
 use Rattle.circle_point.specs.Basis.{vanishing}
 use Rattle.circle_point.specs.Projective.{from_line}
-use Rattle.circle_relation.specs.Accepts.{Fields}
 use Rattle.circle_stark.specs.Accepts.{HasIdentity, IsCompositionAt}
 use Rattle.circle_stark.specs.Statement.{OpenedValues, Statement}
 
@@ -88,33 +87,34 @@ same-quotient {k = k} {l = l} {m = m} told gen n kk chunks q v w one other =
     (vanishing l n q)) same
     ∙ sym other.2
 
-module _ {F E : Type 0} (k : Fields F E) (s : Statement F) (v : OpenedValues E) (alpha zeta : E)
+module _ {F E : Type 0} (k : FieldOps F) (gen : ℕ → Coordinates F) (l : FieldOps E) (m : F → E)
+    (s : Statement F) (v : OpenedValues E) (alpha zeta : E)
     (powers : All (λ column. is_power_of_two (length column) ≡ true) s.parts.periodic_columns) where
   -- what the constraints come to is fixed by the opened values
-  same-composition : (x y : E) → IsCompositionAt k s v alpha zeta x →
-      IsCompositionAt k s v alpha zeta y → x ≡ y
+  same-composition : (x y : E) → IsCompositionAt k gen l m s v alpha zeta x →
+      IsCompositionAt k gen l m s v alpha zeta y → x ≡ y
   same-composition x y one other =
-      let q = from_line k.extension zeta in
+      let q = from_line l zeta in
       one.sum
       ∙ ap
-      (λ w. composition k.extension k.embed s.parts w
-      (selectors_at k.field k.gen k.extension k.embed s.log_n q) alpha)
+      (λ w. composition l m s.parts w
+      (selectors_at k gen l m s.log_n q) alpha)
       (same-window s.log_n s.parts s.public_values q v.local v.next one.window other.window powers
       one.reads other.reads)
       ∙ sym other.sum
 
   module _ (coefficients : E → List F) (degree log_chunks : ℕ)
-      (told : AreCoefficients k.field k.extension k.embed degree coefficients) (value quotient : E)
-      (composed : IsCompositionAt k s v alpha zeta value)
-      (recomposes : IsRecomposed k.field k.gen k.extension k.embed coefficients degree s.log_n
-      log_chunks v.chunks (from_line k.extension zeta) quotient) where
+      (told : AreCoefficients k l m degree coefficients) (value quotient : E)
+      (composed : IsCompositionAt k gen l m s v alpha zeta value)
+      (recomposes : IsRecomposed k gen l m coefficients degree s.log_n
+      log_chunks v.chunks (from_line l zeta) quotient) where
     abbrev pub Matches : Type 0
     Matches =
-        value ≡ k.extension.mul (vanishing k.extension s.log_n (from_line k.extension zeta))
+        value ≡ l.mul (vanishing l s.log_n (from_line l zeta))
         quotient
 
     pub identity-shown : Matches →
-        HasIdentity k s coefficients degree log_chunks v alpha zeta
+        HasIdentity k gen l m s coefficients degree log_chunks v alpha zeta
     identity-shown equal = record {
       value = value;
       quotient = quotient;
@@ -123,9 +123,9 @@ module _ {F E : Type 0} (k : Fields F E) (s : Statement F) (v : OpenedValues E) 
       equal = equal;
     }
 
-    pub identity-told : HasIdentity k s coefficients degree log_chunks v alpha zeta → Matches
+    pub identity-told : HasIdentity k gen l m s coefficients degree log_chunks v alpha zeta → Matches
     identity-told h =
         same-composition value h.value composed h.composed ∙ h.equal
-        ∙ ap (k.extension.mul (vanishing k.extension s.log_n (from_line k.extension zeta)))
-        (same-quotient told k.gen s.log_n log_chunks v.chunks (from_line k.extension zeta)
+        ∙ ap (l.mul (vanishing l s.log_n (from_line l zeta)))
+        (same-quotient told gen s.log_n log_chunks v.chunks (from_line l zeta)
         h.quotient quotient h.recomposed recomposes)

@@ -115,7 +115,7 @@ module _ {C S D F E I M IC ID IP IE WC WD WP WE : Type 0} {g : Ghosts F} (k : Fi
         parts-long as_long truths.of_chunks
 
     -- what is opened of the trace
-    pub opened-rows : (d : Described F) (old : S) → AreDrawn own d tc qc old alpha zeta between →
+    opened-rows : (d : Described F) (old : S) → AreDrawn own d tc qc old alpha zeta between →
         OpensRows g k own d s.log_n x old
         (record { trace = tc; quotient = qc; opened = v; opening = proof_of proof })
     opened-rows d old drawn = record {
@@ -196,7 +196,7 @@ module _ {C S D F E I M IC ID IP IE WC WD WP WE : Type 0} {g : Ghosts F} (k : Fi
 
     module _ (on_next : from_line k.extension next
         ≡ next_from k.extension k.embed k.gen s.log_n zeta) (value combined : E)
-        (composed : IsCompositionAt k s v alpha zeta value)
+        (composed : IsCompositionAt k.field k.gen k.extension k.embed s v alpha zeta value)
         (recomposed : IsRecomposed k.field k.gen k.extension k.embed own.base.coefficients
         own.base.degree s.log_n kk v.chunks (from_line k.extension zeta) combined) where
       abbrev point : Coordinates E
@@ -216,7 +216,8 @@ module _ {C S D F E I M IC ID IP IE WC WD WP WE : Type 0} {g : Ghosts F} (k : Fi
           (next-is ∙ ap (lifted_values_at k.field.zero k.extension k.embed coeffs s.parts.width)
           on_next) composed.reads)
 
-      identity : HasIdentity k s own.base.coefficients own.base.degree kk v alpha zeta
+      identity : HasIdentity k.field k.gen k.extension k.embed s own.base.coefficients
+          own.base.degree kk v alpha zeta
       identity = record {
         value = value;
         quotient = combined;
@@ -243,7 +244,7 @@ module _ {C S D F E I M IC ID IP IE WC WD WP WE : Type 0} {g : Ghosts F} (k : Fi
             ∙ ap (k.extension.mul (vanishing k.extension s.log_n point)) (sym recomposed.2);
       }
 
-      pub accepted : (d : Described F) (old : S) → AreDrawn own d tc qc old alpha zeta between →
+      accepted : (d : Described F) (old : S) → AreDrawn own d tc qc old alpha zeta between →
           StarkAccepts k p own r inputs words d s
           (record { trace = tc; quotient = qc; opened = v; opening = proof_of proof }) old new
       accepted d old drawn = record {
@@ -262,3 +263,11 @@ module _ {C S D F E I M IC ID IP IE WC WD WP WE : Type 0} {g : Ghosts F} (k : Fi
             v as_long proof between new opened.requests opened.kept opened.points opened.given;
         identity = identity;
       }
+
+      -- the proof is accepted, and opens the rows
+      pub proved : (d : Described F) (old : S) → AreDrawn own d tc qc old alpha zeta between →
+          StarkAccepts k p own r inputs words d s
+          (record { trace = tc; quotient = qc; opened = v; opening = proof_of proof }) old new
+          × OpensRows g k own d s.log_n x old
+          (record { trace = tc; quotient = qc; opened = v; opening = proof_of proof })
+      proved d old drawn = (accepted d old drawn, opened-rows d old drawn)

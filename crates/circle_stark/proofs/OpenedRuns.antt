@@ -1,9 +1,10 @@
 -- What is requested of a trace and of chunks, and in what lists it is returned.
-use Rattle.std.specs.Prelude.{◌≡◌, ℕ, List, [], ◌∷◌, length, map, replicate, zip, All}
+use Rattle.std.specs.Prelude.{◌≡◌, ℕ, ◌*◌, ◌%◌, ◌^◌, ◌≤◌, List, [], ◌∷◌, length, map, replicate, zip, All}
 use Rattle.std.specs.List.{AllZip}
 use Rattle.std.proofs.Common.{zero, suc, sym, ◌∙◌, ap, refl, subst, arith}
 use Rattle.std.proofs.lemmas.List.{length-replicate}
 use Rattle.std.proofs.lemmas.List.Elements.{All-nil, All-cons}
+use Rattle.circle_codewords.proofs.Opened.{counted}
 use Rattle.circle_codewords.specs.Requests.{AreAnswers, AreValuesOf}
 use Rattle.circle_commit.specs.Honest.{requested_points}
 use Rattle.circle_commit.specs.Pcs.{Openings}
@@ -92,6 +93,18 @@ module _ {F E : Type 0} (k : Fields F E) (blowup : ℕ) where
     are-opened (q ∷ s ∷ []) (v ∷ w ∷ x ∷ values) named points are = absurd are.1.1
     are-opened (q ∷ s ∷ o ∷ rest) values named points are =
         absurd (let l = ap length named in omega (arith, l))
+
+-- the points of requests for 2^n chunks, as they are requested
+pub points-of : {E : Type 0} (n : ℕ) → n ≤ 62 → (zeta next after : E) → next ≡ after →
+    (points : List (List (List E))) →
+    points
+    ≡ ((zeta ∷ next ∷ []) ∷ [])
+    ∷ replicate (1 * 2 ^ n % 18446744073709551616) (zeta ∷ []) ∷ [] →
+    points ≡ ((zeta ∷ after ∷ []) ∷ []) ∷ replicate (2 ^ n) (zeta ∷ []) ∷ []
+points-of n small zeta next after same points are =
+    are
+    ∙ ap (λ i. ((zeta ∷ next ∷ []) ∷ []) ∷ replicate i (zeta ∷ []) ∷ []) (counted n small)
+    ∙ ap (λ t. ((zeta ∷ t ∷ []) ∷ []) ∷ replicate (2 ^ n) (zeta ∷ []) ∷ []) same
 
 -- values that are returned are those of the record
 pub run-of : {S D E Proof : Type 0}

@@ -20,7 +20,8 @@ use Rattle.circle_relation.proofs.Passed.{front_passes}
 use Rattle.circle_stark.proofs.Passing.{passed-values, same-log, tested}
 use Rattle.circle_stark.specs.Refusals.{stark_tests, statement_tests, value_tests}
 use Rattle.circle_stark.specs.Accepts.{HasIdentity, OpensAt, StarkAccepts}
-use Rattle.circle_stark.specs.Draw.{AreDrawn, Described}
+use Rattle.circle_stark.specs.Draw.{AreDrawn, Described, after_challenge, after_statement}
+use Rattle.circle_stark.specs.Draw.{challenge_after}
 use Rattle.circle_stark.specs.Statement.{Proved, Statement}
 use Rattle.circle_stark.specs.Verdict.{IsRefusedFor, refusal_of}
 use Rattle.circle_stark.specs.declared.error.StarkError.{StarkError}
@@ -29,6 +30,19 @@ use Rattle.circle_stark.specs.declared.round_trip.StarkRoundTripError.{StarkRoun
 use Rattle.circle_stark.specs.declared.round_trip.StarkRoundTripError.TheVariants.{Verify}
 use Rattle.circle_stark.specs.declared.round_trip.StarkRoundTripError.TheVariants.{Memory as OutOfRoom}
 use Rattle.p3_circle.specs.Scheme.{IsFirstFrom, says_memory}
+
+-- a run that draws alpha, pauses between, and draws zeta
+pub drawn-in-turn : {C S F E Com : Type 0} (r : RunMoves C S F E Com) (d : Described F)
+    (trace quotient : Com) (old : S) (alpha zeta : E) (between new : S) →
+    r.base.coefficients alpha ≡ challenge_after r (after_statement r d old) trace →
+    between ≡ after_challenge r (after_statement r d old) trace →
+    r.base.coefficients zeta ≡ challenge_after r between quotient →
+    new ≡ after_challenge r between quotient → AreDrawn r d trace quotient old alpha zeta new
+drawn-in-turn r d trace quotient old alpha zeta between new draws left ends leaves = record {
+  draws_alpha = draws;
+  draws_zeta = ends ∙ ap (λ s. challenge_after r s quotient) left;
+  leaves = leaves ∙ ap (λ s. after_challenge r s quotient) left;
+}
 
 module _ {C S F E Com : Type 0} (r : RunMoves C S F E Com)
     (determined : (a b : E) → r.base.coefficients a ≡ r.base.coefficients b → a ≡ b)
@@ -75,18 +89,18 @@ module _ {C S F E M IC WC IP WP : Type 0} (k : Fields F E) (params : FriParamete
       subst (λ z. OpensAt k params r inputs words s p z between t) zetas
       (subst (λ b. OpensAt k params r inputs words s p a.zeta b t) states a.opens)
 
+  abbrev Identity : ℕ → E → E → Type 0
+  Identity j x z =
+      HasIdentity k.field k.gen k.extension k.embed s own.base.coefficients own.base.degree j
+      p.opened x z
+
   pub accepted-identity : (log_chunks : ℕ) → IsLogOfChunks (degree_of_parts s.parts) log_chunks →
-      HasIdentity k s own.base.coefficients own.base.degree log_chunks p.opened alpha zeta
+      Identity log_chunks alpha zeta
   accepted-identity log_chunks least =
-      subst
-      (λ j. HasIdentity k s own.base.coefficients own.base.degree j p.opened alpha zeta)
+      subst (λ j. Identity j alpha zeta)
       (same-log (degree_of_parts s.parts) a.log_chunks log_chunks a.provable.domains.chunks least)
-      (subst
-      (λ x. HasIdentity k s own.base.coefficients own.base.degree a.log_chunks p.opened x zeta)
-      alphas
-      (subst
-      (λ z. HasIdentity k s own.base.coefficients own.base.degree a.log_chunks p.opened a.alpha z)
-      zetas a.identity))
+      (subst (λ x. Identity a.log_chunks x zeta) alphas
+      (subst (λ z. Identity a.log_chunks a.alpha z) zetas a.identity))
 
   -- and so is the state that is left
   pub accepted-state : (u : S) → StarkAccepts k params own r inputs words d s p old u → u ≡ t

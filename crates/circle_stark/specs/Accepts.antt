@@ -8,6 +8,8 @@
 use Rattle.std.specs.Prelude.{◌≡◌, ℕ, List}
 use Rattle.circle_challenger.specs.Moves.{RunMoves}
 use Rattle.circle_commit.specs.declared.params.FriParameters.{FriParameters}
+use Rattle.circle_field.specs.Circle.{Coordinates}
+use Rattle.circle_field.specs.Field.{FieldOps}
 use Rattle.circle_point.specs.Basis.{vanishing}
 use Rattle.circle_point.specs.Projective.{from_line, to_line}
 use Rattle.circle_domain.specs.Selectors.{next_from}
@@ -22,18 +24,19 @@ use Rattle.circle_stark.specs.Draw.{AreDrawn, Described}
 use Rattle.circle_stark.specs.Provable.{HasShape, IsProvable}
 use Rattle.circle_stark.specs.Statement.{OpenedValues, Proved, Statement}
 
-module _ {F E : Type 0} (k : Fields F E) (s : Statement F) where
+module _ {F E : Type 0} (k : FieldOps F) (gen : ℕ → Coordinates F) (l : FieldOps E) (embed : F → E)
+    (s : Statement F) where
   -- value is the composition of the constraints, under the challenge alpha, at the point of zeta,
   -- where the columns have the values v
   pub record IsCompositionAt (v : OpenedValues E) (alpha zeta value : E) : Type 0 where
     pub window : Window E
     pub reads :
-        IsWindowOf k.field k.gen k.extension k.embed s.log_n s.parts s.public_values
-        (from_line k.extension zeta) v.local v.next window
+        IsWindowOf k gen l embed s.log_n s.parts s.public_values (from_line l zeta) v.local v.next
+        window
     pub sum :
         value
-        ≡ composition k.extension k.embed s.parts window
-        (selectors_at k.field k.gen k.extension k.embed s.log_n (from_line k.extension zeta)) alpha
+        ≡ composition l embed s.parts window
+        (selectors_at k gen l embed s.log_n (from_line l zeta)) alpha
 
   -- the identity at the point of zeta: the composition is the vanishing polynomial of the trace's
   -- domain times the quotient, which is recomposed from its chunks; an element of the extension has
@@ -44,11 +47,9 @@ module _ {F E : Type 0} (k : Fields F E) (s : Statement F) where
     pub quotient : E
     pub composed : IsCompositionAt v alpha zeta value
     pub recomposed :
-        IsRecomposed k.field k.gen k.extension k.embed coefficients degree s.log_n log_chunks
-        v.chunks (from_line k.extension zeta) quotient
-    pub equal :
-        value
-        ≡ k.extension.mul (vanishing k.extension s.log_n (from_line k.extension zeta)) quotient
+        IsRecomposed k gen l embed coefficients degree s.log_n log_chunks v.chunks
+        (from_line l zeta) quotient
+    pub equal : value ≡ l.mul (vanishing l s.log_n (from_line l zeta)) quotient
 
 -- what the challenger is to the scheme's transcript, and when rows authenticate under the schemes
 -- of the batches and of the codewords
@@ -81,4 +82,5 @@ module _ {C S F E M IC WC IP WP : Type 0} (k : Fields F E) (params : FriParamete
     pub fit : IsFit k.extension k.embed k.gen s.log_n zeta
     pub opens : OpensAt k params r inputs words s p zeta between new
     pub identity :
-        HasIdentity k s own.base.coefficients own.base.degree log_chunks p.opened alpha zeta
+        HasIdentity k.field k.gen k.extension k.embed s own.base.coefficients own.base.degree
+        log_chunks p.opened alpha zeta

@@ -1,14 +1,16 @@
 pub mod Accepts
 pub mod Claims
-pub mod Described
 pub mod Draw
 pub mod Honest
 pub mod Json
+pub mod OfPaused
+pub mod OfProvable
 pub mod Opened
 pub mod OpensRows
 pub mod Provable
 pub mod Refusals
 pub mod RoundTrip
+pub mod Schemes
 pub mod Statement
 pub mod Steps
 pub mod Trace

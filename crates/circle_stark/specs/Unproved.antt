@@ -24,10 +24,6 @@ use Rattle.circle_stark.specs.declared.error.StarkProverError.TheVariants.{NoGri
 use Rattle.circle_stark.specs.declared.error.StarkProverError.TheVariants.{PointOnDomain}
 use Rattle.circle_stark.specs.declared.error.StarkProverError.TheVariants.{Unsatisfied}
 
--- e is how a refusal of the scheme's prover is returned
-abbrev pub IsRefusedBy : (ProverError → Type 0) → StarkProverError → Type 0
-IsRefusedBy Refuses e = (error : ProverError) × Refuses error × (e ≡ refusal_by error)
-
 -- the refusal names the first row at which a constraint of the statement doesn't hold, and the
 -- first such constraint there, and the challenger stays as it was
 pub record IsViolatedBy {C F : Type 0} (k : FieldOps F) (s : Statement F) (x : RowMajorMatrix F)

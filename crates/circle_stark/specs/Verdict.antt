@@ -55,7 +55,8 @@ module _ {C S F E M IC WC IP WP Error : Type 0} (k : Fields F E) (params : FriPa
     pub fit : IsFit k.extension k.embed k.gen s.log_n zeta
     pub opens : OpensAt k params r inputs words s p zeta between new
     pub mismatch :
-        ¬ HasIdentity k s own.base.coefficients own.base.degree log_chunks p.opened alpha zeta
+        ¬ HasIdentity k.field k.gen k.extension k.embed s own.base.coefficients own.base.degree
+        log_chunks p.opened alpha zeta
 
   abbrev pub IsRefusedFor : S → StarkError Error → Type 0
   IsRefusedFor new UnfitPoint = IsUnfit new

@@ -1,23 +1,22 @@
 //! The commitments of a prover: to the rows of a trace, and to its quotient in chunks.
-ghost use Rattle.std.specs.Prelude.{◌≡◌, ◌+◌, ◌^◌, ◌<◌, ◌≤◌, ℕ, IfErr, IfOk, length};
-ghost use Rattle.circle_air.specs.Degrees.{IsLogOfChunks, degree_of_parts};
+ghost use Rattle.std.specs.Prelude.{◌≡◌, ◌+◌, ◌^◌, ◌<◌, ◌≤◌, IfErr, IfOk, length};
 ghost use Rattle.circle_commit.specs.RowMajorMatrix.{height_of, width_of};
-ghost use Rattle.circle_stark.specs.Honest.{AreChunksCommitted, ContinuesTrace};
-ghost use Rattle.circle_stark.specs.Honest.{IsQuotientCommitted, IsTraceCommitted, IsTraceKept};
-ghost use Rattle.circle_stark.specs.Provable.{IsProvable};
+ghost use Rattle.circle_stark.specs.Honest.{AreChunksCommitted, ContinuesTrace, IsTraceKept};
+ghost use Rattle.circle_stark.specs.OfProvable.{CommitsTo, CommitsToQuotient, IsKept};
 ghost use Rattle.circle_stark.specs.Statement.{statement_of};
 ghost use Rattle.circle_stark.specs.declared.error.StarkProverError.TheVariants.{Memory};
 
 use crate::error::StarkProverError;
 use crate::lists::single;
 use crate::proof::StarkStatement;
+use crate::provable::ProvableOver;
+use circle_challenger::{CanObserve, CanSample, GrindingChallenger};
 use circle_commit::{Mmcs, RowMajorMatrix};
 use circle_domain::CircleDomain;
-use circle_field::{ComplexExtendable, ExtensionField};
+use circle_field::{ComplexExtendable, ElementBytes, ExtensionField};
 use circle_quotient::chunks::quotient_chunks;
 use circle_quotient::quotient::quotient_values;
 use circle_quotient::trace::ExtendedTrace;
-use circle_relation::OverCircle;
 use p3_circle::CirclePcs;
 use std::alloc::Global;
 
@@ -27,24 +26,28 @@ pub(crate) type Committed<Val, InputMmcs> = (
     <InputMmcs as Mmcs<Val>>::ProverData,
 );
 
-/// Commits to the rows of a trace as values on the standard domain of `2^log_n` points.
-///
-/// Requires `2^log_n` rows, and `log_n < CIRCLE_TWO_ADICITY`.
-pub(crate) fn commit_trace<Val: ComplexExtendable, InputMmcs: Mmcs<Val>, FriMmcs>(
+/// Commits to the rows of a statement's trace, as values on the standard domain of as many points.
+pub(crate) fn commit_trace<Val, EF, InputMmcs, FriMmcs, C>(
     alloc: Global,
-    pcs: &CirclePcs<Val, InputMmcs, FriMmcs>,
-    log_n: usize,
+    provable: &ProvableOver<'_, Val, EF, InputMmcs, FriMmcs, C>,
     rows: RowMajorMatrix<Val>,
 ) -> Result<Committed<Val, InputMmcs>, StarkProverError>
-    requires height { height_of rows ≡ 2 ^ log_n }
-    requires in_group { log_n + 1 ≤ Val.CIRCLE_TWO_ADICITY }
+where
+    Val: ComplexExtendable + ElementBytes,
+    EF: ExtensionField<Val>,
+    InputMmcs: Mmcs<Val>,
+    FriMmcs: Mmcs<EF>,
+    C: CanSample<Val>
+        + GrindingChallenger<Val>
+        + CanObserve<InputMmcs::Commitment>
+        + CanObserve<FriMmcs::Commitment>,
+    requires height { height_of rows ≡ 2 ^ provable.now.statement.log_n }
     ensures refused { IfErr result (λ e. e ≡ Memory) }
-    ensures committed { IfOk result (λ r. IsTraceCommitted Val.Operations Val.ops Val.generators
-        pcs.now.fri_params.log_blowup (InputMmcs.commits pcs.now.mmcs) log_n rows r.0
-        (InputMmcs.matrices r.1)) }
+    ensures committed { IfOk result (λ r. CommitsTo provable.now rows r.0 r.1) }
 {
-    let batch = single(alloc, (CircleDomain::standard(log_n), rows))?;
-    match pcs.commit(alloc, batch) {
+    let domain = CircleDomain::standard(provable.statement.log_n);
+    let batch = single(alloc, (domain, rows))?;
+    match provable.pcs.commit(alloc, batch) {
         Ok(committed) => Ok(committed),
         // Of a trace that was validated the scheme refuses nothing but memory.
         Err(_) => Err(StarkProverError::Memory),
@@ -113,45 +116,43 @@ where
 /// Commits to the quotient of a committed trace's constraints, put together by the powers of
 /// `alpha`: in chunks, each a matrix of the coefficients of its values.
 ///
-/// Requires a statement that was validated, and what [`commit_trace`] keeps.
-pub(crate) fn commit_quotient<Val, EF, InputMmcs, FriMmcs>(
+/// Requires what [`commit_trace`] keeps.
+pub(crate) fn commit_quotient<Val, EF, InputMmcs, FriMmcs, C>(
     alloc: Global,
-    pcs: &CirclePcs<Val, InputMmcs, FriMmcs>,
-    statement: &StarkStatement<Val>,
+    provable: &ProvableOver<'_, Val, EF, InputMmcs, FriMmcs, C>,
     trace: &InputMmcs::ProverData,
     alpha: EF,
 ) -> Result<Committed<Val, InputMmcs>, StarkProverError>
 where
-    Val: ComplexExtendable,
+    Val: ComplexExtendable + ElementBytes,
     EF: ExtensionField<Val>,
     InputMmcs: Mmcs<Val>,
-    requires kept { IsTraceKept Val.Operations Val.ops Val.generators pcs.now.fri_params.log_blowup
-        statement.now.log_n (statement_of statement.now).parts.width
-        (InputMmcs.matrices trace.now) }
-    requires provable { (kk : ℕ) →
-        IsLogOfChunks (degree_of_parts (statement_of statement.now).parts) kk →
-        IsProvable Val.CIRCLE_TWO_ADICITY pcs.now.fri_params (statement_of statement.now) kk }
+    FriMmcs: Mmcs<EF>,
+    C: CanSample<Val>
+        + GrindingChallenger<Val>
+        + CanObserve<InputMmcs::Commitment>
+        + CanObserve<FriMmcs::Commitment>,
+    // It is required by itself, since with one clause alone the prover takes long to state the
+    // place of a call.
+    requires positive { 1 ≤ provable.now.statement.log_n }
+    requires kept { IsKept provable.now trace.now }
     ensures refused { IfErr result (λ e. e ≡ Memory) }
-    ensures committed { IfOk result (λ r. (kk : ℕ) →
-        IsLogOfChunks (degree_of_parts (statement_of statement.now).parts) kk →
-        IsQuotientCommitted Val.Operations ⟦<EF as OverCircle<Val>>⟧.fields
-        pcs.now.fri_params.log_blowup (InputMmcs.commits pcs.now.mmcs) EF.coefficients EF.DEGREE
-        (statement_of statement.now) kk (InputMmcs.matrices trace.now) alpha r.0
-        (InputMmcs.matrices r.1)) }
+    ensures committed { IfOk result (λ r.
+        CommitsToQuotient provable.now trace.now alpha r.0 r.1) }
 {
+    let (pcs, log_chunks) = (provable.pcs, provable.log_chunks);
     let StarkStatement {
         air,
         log_n,
         public_values,
-    } = *statement;
-    let log_num_chunks = air.log_num_quotient_chunks();
-    let rows = extended_rows(alloc, pcs, statement, trace, log_n + log_num_chunks)?;
+    } = provable.statement;
+    let rows = extended_rows(alloc, pcs, &provable.statement, trace, log_n + log_chunks)?;
     let extended = ExtendedTrace {
         rows: &rows,
         log_n,
-        log_num_chunks,
+        log_num_chunks: log_chunks,
         public_values,
     };
     let values = quotient_values(alloc, air, &extended, alpha)?;
-    commit_chunks(alloc, pcs, log_n, log_num_chunks, values)
+    commit_chunks(alloc, pcs, log_n, log_chunks, values)
 }

@@ -22,7 +22,6 @@ use circle_quotient::composition::composition;
 use circle_quotient::fit::fit_is_clear;
 use circle_quotient::recomposition::recompose_quotient;
 use circle_quotient::window::PointWindow;
-use circle_relation::OverCircle;
 use std::alloc::{AllocError, Global};
 
 // The value of a periodic column over `2^log_n` rows at the point of `zeta`.
@@ -106,7 +105,7 @@ fn composition_at<F: ComplexExtendable, EF: ExtensionField<F>>(
     requires local { vec_len values.now.trace_local ≡ (statement_of statement.now).parts.width }
     requires next { vec_len values.now.trace_next ≡ (statement_of statement.now).parts.width }
     requires fit { IsFit EF.ops EF.embed F.generators statement.now.log_n drawn.zeta }
-    ensures { IfOk result (IsCompositionAt ⟦<EF as OverCircle<F>>⟧.fields
+    ensures { IfOk result (IsCompositionAt F.ops F.generators EF.ops EF.embed
         (statement_of statement.now) (values_of values.now) drawn.alpha drawn.zeta) }
 {
     let StarkStatement {
@@ -151,7 +150,7 @@ pub(crate) fn identity_sides<F: ComplexExtendable, EF: ExtensionField<F>>(
     requires shape { HasShape EF.DEGREE (statement_of statement.now).parts.width log_chunks
         (values_of values.now) }
     requires fit { IsFit EF.ops EF.embed F.generators statement.now.log_n drawn.zeta }
-    ensures composed { IfOk result (λ sides. IsCompositionAt ⟦<EF as OverCircle<F>>⟧.fields
+    ensures composed { IfOk result (λ sides. IsCompositionAt F.ops F.generators EF.ops EF.embed
         (statement_of statement.now) (values_of values.now) drawn.alpha drawn.zeta
         sides.composition) }
     ensures recomposed { IfOk result (λ sides. IsRecomposed F.ops F.generators EF.ops EF.embed
@@ -182,7 +181,7 @@ pub(crate) fn has_identity<F: ComplexExtendable, EF: ExtensionField<F>>(
     requires shape { HasShape EF.DEGREE (statement_of statement.now).parts.width log_chunks
         (values_of values.now) }
     requires fit { IsFit EF.ops EF.embed F.generators statement.now.log_n drawn.zeta }
-    ensures { IfOk result (λ holds. IsTrue holds ↔ HasIdentity ⟦<EF as OverCircle<F>>⟧.fields
+    ensures { IfOk result (λ holds. IsTrue holds ↔ HasIdentity F.ops F.generators EF.ops EF.embed
         (statement_of statement.now) EF.coefficients EF.DEGREE log_chunks
         (values_of values.now) drawn.alpha drawn.zeta) }
 {

@@ -21,15 +21,19 @@
 //! Its files:
 //!
 //! - In `src/`, `verifier.rt`: `verify`. `statement.rt`: what is refused before the challenger is
-//!   seeded. `transcript.rt`: what is drawn before the scheme's transcript. `claims.rt`: the claims
-//!   of a proof. `identity.rt`: both sides of the identity. `prover.rt`: `prove`. `trace.rt`: what
-//!   is refused of a trace. `committing.rt`, `opening.rt`: what a prover commits to and opens.
-//!   `round_trip.rt`: `prove_and_verify`. `relation.rt`: what contracts cite.
+//!   seeded. `provable.rt`: a statement that passed the tests, as a value that carries what is known
+//!   of it, of its scheme and of the challengers. `transcript.rt`: what is drawn before the scheme's
+//!   transcript. `claims.rt`: the claims of a proof. `identity.rt`: both sides of the identity.
+//!   `prover.rt`: `prove`. `trace.rt`: what is refused of a trace. `committing.rt`, `opening.rt`:
+//!   what a prover commits to and opens. `round_trip.rt`: `prove_and_verify`. `relation.rt`: what
+//!   contracts cite.
 //! - In `specs/`, `Accepts`: the relation. `Draw`, `Steps`: the transcript. `Statement`, `Claims`,
 //!   `Provable`: statements and proofs as lists, the claims, and their shape. `Refusals`, `Verdict`:
 //!   refusals in order, and reasons. `Trace`, `Unproved`: the refusals of a trace, and why there is
 //!   no proof. `Honest`, `Opened`: what an honest prover commits to and opens. `OpensRows`: the
-//!   values that it opens. `RoundTrip`: the refusals of both. `Json`: the members of objects.
+//!   values that it opens. `Schemes`: all of that over a scheme and its challengers. `OfProvable`,
+//!   `OfPaused`: the same of the values of a run. `RoundTrip`: the refusals of both. `Json`: the
+//!   members of objects.
 //! - In `proofs/`, of `verify`: `Passing`: what tests establish. `Fixed`: the opened values fix the
 //!   identity. `Selecting`: selectors of a standard domain. `Verdicts`: what is drawn fixes the
 //!   verdict.
@@ -48,6 +52,7 @@ pub mod json;
 mod lists;
 mod opening;
 pub mod proof;
+mod provable;
 pub mod prover;
 pub mod relation;
 pub mod round_trip;

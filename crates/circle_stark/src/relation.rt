@@ -1,15 +1,15 @@
 //! What is promised of a proof, for contracts alone.
 ghost use Rattle.std.specs.Prelude.{ℕ};
 ghost use Rattle.circle_air.specs.Degrees.{IsLogOfChunks, degree_of_parts};
-ghost use Rattle.circle_stark.specs.Accepts.{StarkAccepts};
-ghost use Rattle.circle_stark.specs.OpensRows.{OpensRows};
-ghost use Rattle.circle_stark.specs.Statement.{described_by, proved_of, statement_of, values_of};
-ghost use Rattle.circle_stark.specs.Refusals.{stark_tests};
-ghost use Rattle.circle_stark.specs.Trace.{stated, tests_of_trace};
-ghost use Rattle.circle_stark.specs.Unproved.{IsTraceUnprovedFor, IsUnprovedFor};
-ghost use Rattle.circle_stark.specs.Verdict.{IsOpeningRefused, IsRefusedFor};
-ghost use Rattle.p3_circle.specs.Scheme.{IsFirstFrom};
+ghost use Rattle.circle_commit.specs.Honest.{AreTrueValues};
 ghost use Rattle.circle_commit.specs.declared.matrix.RowMajorMatrix.{RowMajorMatrix};
+ghost use Rattle.circle_stark.specs.Refusals.{stark_tests};
+ghost use Rattle.circle_stark.specs.Schemes.{Accepts, IsTraceUnproved, IsUnproved, Opens, Refuses};
+ghost use Rattle.circle_stark.specs.Schemes.{Schemes};
+ghost use Rattle.circle_stark.specs.Statement.{proved_of, statement_of, values_of};
+ghost use Rattle.circle_stark.specs.Trace.{stated, tests_of_trace};
+ghost use Rattle.circle_stark.specs.Verdict.{IsOpeningRefused};
+ghost use Rattle.p3_circle.specs.Scheme.{IsFirstFrom};
 ghost use Rattle.circle_stark.specs.declared.error.StarkError.{StarkError};
 ghost use Rattle.circle_stark.specs.declared.error.StarkProverError.{StarkProverError};
 ghost use Rattle.circle_stark.specs.declared.proof.StarkStatement.{StarkStatement};
@@ -24,14 +24,59 @@ use circle_field::{ComplexExtendable, ElementBytes, ExtensionField};
 use circle_relation::{OverCircle, VerifierError};
 use p3_circle::CirclePcs;
 
-/// What is promised of proofs over a scheme, for contracts alone.
-///
-/// Each scheme has it, so no function requires it: a clause cites
-/// `⟦<CirclePcs<Val, InputMmcs, FriMmcs> as StarkRelation<EF, C>>⟧.accepts`.
-pub trait StarkRelation<EF, C: ChallengerState> {
+/// What contracts see of a scheme that proofs are made over, and of the challengers of its runs.
+pub trait StarkSchemes<EF, C: ChallengerState> {
     /// The entries of a trace.
     type Entry;
 
+    // The fields, the schemes of the batches and of the codewords, and what a challenger is to both.
+    ghost schemes: { Schemes Self C C.State Self.Entry EF };
+}
+
+impl<Val, EF, InputMmcs, FriMmcs, C> StarkSchemes<EF, C> for CirclePcs<Val, InputMmcs, FriMmcs>
+where
+    Val: ComplexExtendable + ElementBytes,
+    EF: ExtensionField<Val>,
+    InputMmcs: Mmcs<Val>,
+    FriMmcs: Mmcs<EF>,
+    C: CanSample<Val>
+        + GrindingChallenger<Val>
+        + CanObserve<InputMmcs::Commitment>
+        + CanObserve<FriMmcs::Commitment>,
+{
+    type Entry = Val;
+
+    ghost schemes = { let p = ⟦<Self as Pcs<EF, C>>⟧ in record {
+      Commitment = InputMmcs.Commitment;
+      WordCommitment = FriMmcs.Commitment;
+      RowsProof = InputMmcs.MultiProof;
+      WordRowsProof = FriMmcs.MultiProof;
+      ProverData = InputMmcs.ProverData;
+      Opening = _;
+      Error = _;
+      WordScheme = FriMmcs;
+      operations = Val.Operations;
+      bytes = Val.bytes;
+      num_bytes = Val.BYTES;
+      fields = ⟦<EF as OverCircle<Val>>⟧.fields;
+      own = ⟦<C as RunChallenger<Val, EF, InputMmcs::Commitment>>⟧.run;
+      words = ⟦<C as RunChallenger<Val, EF, FriMmcs::Commitment>>⟧.run;
+      params = λ pcs. pcs.fri_params;
+      kept = InputMmcs.matrices;
+      Commits = λ pcs. InputMmcs.commits pcs.mmcs;
+      authenticates = λ pcs. InputMmcs.authenticates pcs.mmcs;
+      word_authenticates = λ pcs. FriMmcs.authenticates pcs.fri_params.mmcs;
+      Gives = p.open_gives;
+      RefusesToOpen = p.open_refuses;
+      AreTrue = λ pcs. AreTrueValues (p.commits pcs) (p.values_of pcs);
+      RefusesClaims = λ pcs. IsOpeningRefused (p.verify_refuses pcs);
+    } };
+}
+
+/// What is promised of proofs over a scheme, for contracts alone.
+///
+/// Each scheme has it, so no function requires it: a clause cites the members of the scheme's.
+pub trait StarkRelation<EF, C: ChallengerState>: StarkSchemes<EF, C> {
     /// The proofs.
     type Proof;
 
@@ -80,68 +125,36 @@ where
         + CanObserve<InputMmcs::Commitment>
         + CanObserve<FriMmcs::Commitment>,
 {
-    type Entry = Val;
-
     type Proof = StarkProof<Val, EF, InputMmcs, FriMmcs>;
 
     type Error = VerifierError<InputMmcs::Error, FriMmcs::Error>;
 
-    ghost accepts = { λ pcs statement old new proof. StarkAccepts
-        ⟦<EF as OverCircle<Val>>⟧.fields pcs.fri_params
-        ⟦<C as RunChallenger<Val, EF, InputMmcs::Commitment>>⟧.run
-        ⟦<C as RunChallenger<Val, EF, FriMmcs::Commitment>>⟧.run
-        (InputMmcs.authenticates pcs.mmcs) (FriMmcs.authenticates pcs.fri_params.mmcs)
-        (described_by Val.bytes Val.BYTES (statement_of statement)) (statement_of statement)
-        (proved_of proof) (C.state old) (C.state new) };
+    ghost accepts = { λ pcs statement old new proof. Accepts Self.schemes pcs
+        (statement_of statement) (proved_of proof) (C.state old) (C.state new) };
 
-    ghost holds = { λ pcs statement proof old. (left : C.State) × StarkAccepts
-        ⟦<EF as OverCircle<Val>>⟧.fields pcs.fri_params
-        ⟦<C as RunChallenger<Val, EF, InputMmcs::Commitment>>⟧.run
-        ⟦<C as RunChallenger<Val, EF, FriMmcs::Commitment>>⟧.run
-        (InputMmcs.authenticates pcs.mmcs) (FriMmcs.authenticates pcs.fri_params.mmcs)
-        (described_by Val.bytes Val.BYTES (statement_of statement)) (statement_of statement)
-        (proved_of proof) (C.state old) left };
+    ghost holds = { λ pcs statement proof old. (left : C.State) × Accepts Self.schemes pcs
+        (statement_of statement) (proved_of proof) (C.state old) left };
 
-    ghost refuses_seeded = { λ pcs statement proof kk old new. IsRefusedFor
-        ⟦<EF as OverCircle<Val>>⟧.fields pcs.fri_params
-        ⟦<C as RunChallenger<Val, EF, InputMmcs::Commitment>>⟧.run
-        ⟦<C as RunChallenger<Val, EF, FriMmcs::Commitment>>⟧.run
-        (InputMmcs.authenticates pcs.mmcs) (FriMmcs.authenticates pcs.fri_params.mmcs)
-        (IsOpeningRefused (⟦<Self as Pcs<EF, C>>⟧.verify_refuses pcs) proof.opening_proof)
-        (described_by Val.bytes Val.BYTES (statement_of statement)) (statement_of statement)
-        (proved_of proof) kk (C.state old) (C.state new) };
+    ghost refuses_seeded = { λ pcs statement proof kk old new. Refuses Self.schemes pcs
+        proof.opening_proof (statement_of statement) (proved_of proof) kk (C.state old)
+        (C.state new) };
 
     ghost refuses = { λ pcs statement proof old new e. (kk : ℕ) →
         IsLogOfChunks (degree_of_parts (statement_of statement).parts) kk →
         IsFirstFrom (stark_tests Val.CIRCLE_TWO_ADICITY pcs.fri_params kk EF.DEGREE
         (statement_of statement) (values_of proof.opened_values))
-        (IsRefusedFor ⟦<EF as OverCircle<Val>>⟧.fields
-        pcs.fri_params ⟦<C as RunChallenger<Val, EF, InputMmcs::Commitment>>⟧.run
-        ⟦<C as RunChallenger<Val, EF, FriMmcs::Commitment>>⟧.run
-        (InputMmcs.authenticates pcs.mmcs) (FriMmcs.authenticates pcs.fri_params.mmcs)
-        (IsOpeningRefused (⟦<Self as Pcs<EF, C>>⟧.verify_refuses pcs) proof.opening_proof)
-        (described_by Val.bytes Val.BYTES (statement_of statement)) (statement_of statement)
-        (proved_of proof) kk (C.state old) (C.state new)) (C.state old) (C.state new) e };
+        (Refuses Self.schemes pcs proof.opening_proof (statement_of statement) (proved_of proof) kk
+        (C.state old) (C.state new)) (C.state old) (C.state new) e };
 
     ghost unopened = { λ pcs statement rows old new e. (kk : ℕ) →
-        IsLogOfChunks (degree_of_parts (statement_of statement).parts) kk →
-        IsUnprovedFor Val.Operations ⟦<EF as OverCircle<Val>>⟧.fields
-        ⟦<C as RunChallenger<Val, EF, InputMmcs::Commitment>>⟧.run pcs.fri_params.log_blowup
-        (InputMmcs.commits pcs.mmcs) InputMmcs.matrices (⟦<Self as Pcs<EF, C>>⟧.open_refuses pcs)
-        (described_by Val.bytes Val.BYTES (statement_of statement)) (statement_of statement) kk
-        rows (C.state old) (C.state new) e };
+        IsLogOfChunks (degree_of_parts (statement_of statement).parts) kk → IsUnproved Self.schemes
+        pcs (statement_of statement) kk rows (C.state old) (C.state new) e };
 
     ghost unproved = { λ pcs trace old new e. (kk : ℕ) →
         IsLogOfChunks (degree_of_parts (stated trace).parts) kk →
         IsFirstFrom (tests_of_trace Val.CIRCLE_TWO_ADICITY pcs.fri_params kk trace)
-        (IsTraceUnprovedFor Val.Operations ⟦<EF as OverCircle<Val>>⟧.fields
-        ⟦<C as RunChallenger<Val, EF, InputMmcs::Commitment>>⟧.run pcs.fri_params.log_blowup
-        (InputMmcs.commits pcs.mmcs) InputMmcs.matrices (⟦<Self as Pcs<EF, C>>⟧.open_refuses pcs)
-        (described_by Val.bytes Val.BYTES (stated trace)) (stated trace) kk
-        trace.rows C.state old new) old new e };
+        (IsTraceUnproved Self.schemes pcs (stated trace) kk trace.rows old new) old new e };
 
-    ghost opens = { λ pcs statement rows old proof. OpensRows Val.Operations
-        ⟦<EF as OverCircle<Val>>⟧.fields ⟦<C as RunChallenger<Val, EF, InputMmcs::Commitment>>⟧.run
-        (described_by Val.bytes Val.BYTES (statement_of statement)) statement.log_n rows
+    ghost opens = { λ pcs statement rows old proof. Opens Self.schemes (statement_of statement) rows
         (C.state old) (proved_of proof) };
 }

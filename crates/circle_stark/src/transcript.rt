@@ -5,15 +5,22 @@ ghost use Rattle.circle_challenger.specs.Interaction.{step_of};
 ghost use Rattle.circle_challenger.specs.Played.{element_challenge, opaque_message};
 ghost use Rattle.circle_challenger.specs.Observing.{after_all};
 ghost use Rattle.circle_challenger.specs.TranscriptState.{SameChallenger, current, due};
-ghost use Rattle.circle_stark.specs.Draw.{after_challenge, after_statement, challenge_after};
+ghost use Rattle.circle_stark.specs.Draw.{after_challenge, challenge_after};
+ghost use Rattle.circle_stark.specs.OfProvable.{begun, own_of};
+ghost use Rattle.circle_stark.specs.Statement.{described_by, statement_of};
 ghost use Rattle.circle_stark.specs.Steps.{public_steps, quotient_steps, separator_of, steps_of};
 
+use crate::proof::StarkStatement;
+use crate::provable::ProvableOver;
 use circle_challenger::{
     CanObserve, CanSample, DomainSeparator, GrindingChallenger, Hierarchy, Interaction,
-    InteractionPattern, Kind, Length, RunChallenger, StepsDue, VerifierState,
+    InteractionPattern, Kind, Length, StepsDue, VerifierState,
 };
-use circle_field::{ExtensionField, Field};
+use circle_commit::Mmcs;
+use circle_field::{ComplexExtendable, ElementBytes, ExtensionField, Field};
+use circle_transcript::TranscriptMoves;
 use std::alloc::{AllocError, Global};
+use std::marker::PhantomData;
 
 /// The version that the seed names.
 const VERSION: u8 = 1;
@@ -36,15 +43,16 @@ const QUOTIENT_COMMITMENT: &str = "quotient_commitment";
 /// The coordinate of the point at which all is opened.
 const OUT_OF_DOMAIN_POINT: &str = "out_of_domain_point";
 
-/// What a run is described by before anything is committed to.
-#[derive(Clone, Copy)]
-pub(crate) struct Description<'a, F> {
-    /// The AIR's digest.
-    pub digest: &'a [u8; 32],
-    /// The binary logarithm of the trace's height.
-    pub log_n: usize,
-    /// The public values.
-    pub public_values: &'a [F],
+/// A run whose first challenge is drawn, until the quotient is committed to.
+#[derive(Drop)]
+pub(crate) struct PausedRun<C: TranscriptMoves<F, EF, Com>, F, EF, Com> {
+    /// The challenge that puts the constraints together.
+    pub alpha: EF,
+    /// The steps that are left, over the challenger as it was left.
+    pub due: StepsDue<C>,
+    of: PhantomData<(F, Com)>,
+    /// The steps are those of the quotient.
+    pub ghost steps: { due.steps ≡ quotient_steps C.run.base.degree },
 }
 
 // A step that absorbs a commitment.
@@ -108,77 +116,82 @@ fn observe_public_values<F: Field, C: CanSample<F> + GrindingChallenger<F>>(
     }
 }
 
-impl<F: Field> Description<'_, F> {
-    ghost use Rattle.circle_stark.specs.Described.{described};
-
-    // What the run is seeded with.
-    #[tactic(auto, unfolding(circle_challenger::specs::Step::be64))]
-    fn domain_separator<EF: ExtensionField<F>>(
-        &self,
-        alloc: Global,
-    ) -> Result<DomainSeparator, AllocError>
-        ensures { IfOk result (λ s. s ≡ separator_of EF.DEGREE (length self.now.public_values.now)
-            self.now.digest.now self.now.log_n) }
-    {
-        let pattern = pattern::<F, EF>(alloc, self.public_values.len())?;
-        let separator = DomainSeparator::new(alloc, VERSION, NAME, pattern)?;
-        let digest = self.digest;
-        let separator = separator.instance(alloc, digest)?;
-        separator.instance(alloc, &(self.log_n as u64).to_be_bytes())
-    }
-
-    /// Begins the run: seeds the challenger, absorbs the public values and the trace's commitment,
-    /// and draws the challenge that puts the constraints together. Returns it with the steps that
-    /// are left. Where memory is refused the challenger is left as it was.
-    pub fn constraint_challenge<EF: ExtensionField<F>, Com, C>(
-        &self,
-        alloc: Global,
-        challenger: &mut C,
-        trace: &Com,
-    ) -> Result<(EF, StepsDue<C>), AllocError>
-    where
-        C: CanSample<F> + GrindingChallenger<F> + CanObserve<Com>,
-        ensures refused { OnErr result (challenger.new ≡ challenger.old) }
-        ensures alpha { let r = ⟦<C as RunChallenger<F, EF, Com>>⟧.run in IfOk result (λ drawn.
-            EF.coefficients drawn.0 ≡ challenge_after r (after_statement r (described self.now)
-            (C.state challenger.old)) trace.now) }
-        ensures state { let r = ⟦<C as RunChallenger<F, EF, Com>>⟧.run in OnOk result (C.state
-            challenger.new ≡ after_challenge r (after_statement r (described self.now)
-            (C.state challenger.old)) trace.now) }
-        ensures due { IfOk result (λ drawn. drawn.1.steps ≡ quotient_steps EF.DEGREE) }
-        ensures kept { IfOk result (λ drawn. drawn.1.challenger ≡ challenger.new) }
-    {
-        let separator = self.domain_separator::<EF>(alloc)?;
-        let mut transcript = VerifierState::<C, F>::new(challenger, &separator);
-        observe_public_values(&mut transcript, self.public_values);
-        transcript.observe_opaque(TRACE_COMMITMENT, trace);
-        let alpha = transcript.challenge_extension(CONSTRAINT_CHALLENGE);
-        Ok((alpha, transcript.pause()))
-    }
+// What the run of a statement is seeded with.
+#[tactic(auto, unfolding(circle_challenger::specs::Step::be64))]
+fn domain_separator<Val: ComplexExtendable + ElementBytes, EF: ExtensionField<Val>>(
+    alloc: Global,
+    statement: &StarkStatement<Val>,
+) -> Result<DomainSeparator, AllocError>
+    ensures { let d = described_by Val.bytes Val.BYTES (statement_of statement.now) in IfOk result
+        (λ s. s ≡ separator_of EF.DEGREE (length d.public_values) d.digest d.log_n) }
+{
+    let pattern = pattern::<Val, EF>(alloc, statement.public_values.len())?;
+    let separator = DomainSeparator::new(alloc, VERSION, NAME, pattern)?;
+    let digest = statement.air.digest();
+    let separator = separator.instance(alloc, &digest)?;
+    separator.instance(alloc, &(statement.log_n as u64).to_be_bytes())
 }
 
-/// Ends the run: absorbs the commitment to the quotient's chunks, and draws the coordinate of the
-/// point at which all is opened.
-///
-/// Requires the steps that [`Description::constraint_challenge`] returned, and the challenger as it
-/// was left then.
-pub(crate) fn out_of_domain_point<F: Field, EF: ExtensionField<F>, Com, C>(
+/// Begins the run of a statement: seeds the challenger, absorbs the public values and the trace's
+/// commitment, and draws the challenge that puts the constraints together. Where memory is refused
+/// the challenger is left as it was.
+pub(crate) fn constraint_challenge<Val, EF, InputMmcs, FriMmcs, C>(
+    alloc: Global,
+    provable: &ProvableOver<'_, Val, EF, InputMmcs, FriMmcs, C>,
     challenger: &mut C,
-    due: StepsDue<C>,
-    quotient: &Com,
-) -> EF
+    trace: &InputMmcs::Commitment,
+) -> Result<PausedRun<C, Val, EF, InputMmcs::Commitment>, AllocError>
+where
+    Val: ComplexExtendable + ElementBytes,
+    EF: ExtensionField<Val>,
+    InputMmcs: Mmcs<Val>,
+    FriMmcs: Mmcs<EF>,
+    C: CanSample<Val>
+        + GrindingChallenger<Val>
+        + CanObserve<InputMmcs::Commitment>
+        + CanObserve<FriMmcs::Commitment>,
+    ensures refused { OnErr result (challenger.new ≡ challenger.old) }
+    ensures alpha { IfOk result (λ run. EF.coefficients run.alpha
+        ≡ challenge_after (own_of provable.now) (begun provable.now challenger.old) trace.now) }
+    ensures state { OnOk result (C.state challenger.new
+        ≡ after_challenge (own_of provable.now) (begun provable.now challenger.old) trace.now) }
+    ensures kept { IfOk result (λ run. run.due.challenger ≡ challenger.new) }
+{
+    let statement = provable.statement;
+    let separator = domain_separator::<Val, EF>(alloc, &statement)?;
+    let mut transcript = VerifierState::<C, Val>::new(challenger, &separator);
+    observe_public_values(&mut transcript, statement.public_values);
+    transcript.observe_opaque(TRACE_COMMITMENT, trace);
+    let alpha = transcript.challenge_extension(CONSTRAINT_CHALLENGE);
+    let due = transcript.pause();
+    Ok(PausedRun {
+        alpha,
+        due,
+        of: PhantomData,
+    })
+}
+
+impl<F: Field, EF: ExtensionField<F>, Com, C> PausedRun<C, F, EF, Com>
 where
     C: CanSample<F> + GrindingChallenger<F> + CanObserve<Com>,
-    requires due { due.steps ≡ quotient_steps EF.DEGREE }
-    requires paused { challenger.old ≡ due.challenger }
-    ensures zeta { let r = ⟦<C as RunChallenger<F, EF, Com>>⟧.run in EF.coefficients result
-        ≡ challenge_after r (C.state challenger.old) quotient.now }
-    ensures state { let r = ⟦<C as RunChallenger<F, EF, Com>>⟧.run in
-        C.state challenger.new ≡ after_challenge r (C.state challenger.old) quotient.now }
 {
-    let mut transcript = VerifierState::<C, F>::resume(challenger, due);
-    transcript.observe_opaque(QUOTIENT_COMMITMENT, quotient);
-    let zeta = transcript.challenge_extension(OUT_OF_DOMAIN_POINT);
-    transcript.finish();
-    zeta
+    ghost use Rattle.circle_stark.specs.OfPaused.{moves_of};
+
+    /// Ends the run: absorbs the commitment to the quotient's chunks, and draws the coordinate of
+    /// the point at which all is opened.
+    ///
+    /// Requires the challenger as it was left when the run was paused.
+    pub fn out_of_domain_point(self, challenger: &mut C, quotient: &Com) -> EF
+        requires paused { challenger.old ≡ self.due.challenger }
+        ensures zeta { EF.coefficients result
+            ≡ challenge_after (moves_of self) (C.state challenger.old) quotient.now }
+        ensures state { C.state challenger.new
+            ≡ after_challenge (moves_of self) (C.state challenger.old) quotient.now }
+    {
+        let mut transcript = VerifierState::<C, F>::resume(challenger, self.due);
+        transcript.observe_opaque(QUOTIENT_COMMITMENT, quotient);
+        let zeta = transcript.challenge_extension(OUT_OF_DOMAIN_POINT);
+        transcript.finish();
+        zeta
+    }
 }

@@ -1,10 +1,10 @@
 //! The verifier.
 ghost use Rattle.std.specs.Prelude.{◌≡◌, ℕ, IfErr, IfOk, OnErr, OnOk};
 ghost use Rattle.circle_air.specs.Degrees.{IsLogOfChunks, degree_of_parts};
-ghost use Rattle.circle_stark.specs.Draw.{AreDrawn};
+ghost use Rattle.circle_stark.specs.OfProvable.{Accepts, Draws, Holds, Refuses, stated_by};
 ghost use Rattle.circle_stark.specs.Provable.{HasShape, IsProvable};
 ghost use Rattle.circle_stark.specs.Refusals.{IsFirstRefusal, IsTested, stark_tests};
-ghost use Rattle.circle_stark.specs.Statement.{described_by, statement_of, values_of};
+ghost use Rattle.circle_stark.specs.Statement.{statement_of, values_of};
 ghost use Rattle.circle_stark.specs.Verdict.{refusal_of};
 ghost use Rattle.circle_stark.specs.declared.error.StarkError.TheVariants.{Memory};
 
@@ -12,16 +12,18 @@ use crate::claims::{OpenedPoints, claims_of};
 use crate::error::StarkError;
 use crate::identity::has_identity;
 use crate::proof::{StarkProof, StarkStatement};
+use crate::provable::{ProvableOver, ProvableStatement};
 use crate::relation::StarkRelation;
 use crate::statement::{validate_values, validated_log_chunks};
-use crate::transcript::{Description, out_of_domain_point};
-use circle_challenger::{CanObserve, CanSample, GrindingChallenger, RunChallenger};
+use crate::transcript::constraint_challenge;
+use circle_challenger::{CanObserve, CanSample, GrindingChallenger};
 use circle_commit::{FriError, FriParameters, Mmcs};
 use circle_field::{ComplexExtendable, ElementBytes, ExtensionField};
 use circle_quotient::fit::is_fit;
-use circle_relation::{OverCircle, VerifierError};
+use circle_relation::VerifierError;
 use p3_circle::CirclePcs;
 use std::alloc::{AllocError, Global};
+use std::marker::PhantomData;
 
 /// The challenges of a run before the scheme's.
 #[derive(Clone, Copy)]
@@ -34,30 +36,29 @@ pub(crate) struct Challenges<EF> {
 
 // Draws the challenges of a statement and a proof. Where memory is refused the challenger is left
 // as it was.
-fn draw<F, EF, Com, C>(
+fn draw<Val, EF, InputMmcs, FriMmcs, C>(
     alloc: Global,
-    statement: &StarkStatement<F>,
-    trace: &Com,
-    quotient: &Com,
+    provable: &ProvableOver<'_, Val, EF, InputMmcs, FriMmcs, C>,
+    trace: &InputMmcs::Commitment,
+    quotient: &InputMmcs::Commitment,
     challenger: &mut C,
 ) -> Result<Challenges<EF>, AllocError>
 where
-    F: ComplexExtendable + ElementBytes,
-    EF: ExtensionField<F>,
-    C: CanSample<F> + GrindingChallenger<F> + CanObserve<Com>,
+    Val: ComplexExtendable + ElementBytes,
+    EF: ExtensionField<Val>,
+    InputMmcs: Mmcs<Val>,
+    FriMmcs: Mmcs<EF>,
+    C: CanSample<Val>
+        + GrindingChallenger<Val>
+        + CanObserve<InputMmcs::Commitment>
+        + CanObserve<FriMmcs::Commitment>,
     ensures refused { OnErr result (challenger.new ≡ challenger.old) }
-    ensures drawn { let r = ⟦<C as RunChallenger<F, EF, Com>>⟧.run in IfOk result (λ d. AreDrawn r
-        (described_by F.bytes F.BYTES (statement_of statement.now)) trace.now quotient.now
-        (C.state challenger.old) d.alpha d.zeta (C.state challenger.new)) }
+    ensures drawn { IfOk result (λ d. Draws provable.now trace.now quotient.now challenger.old
+        d.alpha d.zeta challenger.new) }
 {
-    let digest = statement.air.digest();
-    let description = Description {
-        digest: &digest,
-        log_n: statement.log_n,
-        public_values: statement.public_values,
-    };
-    let (alpha, due) = description.constraint_challenge(alloc, challenger, trace)?;
-    let zeta = out_of_domain_point(challenger, due, quotient);
+    let run = constraint_challenge(alloc, provable, challenger, trace)?;
+    let alpha = run.alpha;
+    let zeta = run.out_of_domain_point(challenger, quotient);
     Ok(Challenges { alpha, zeta })
 }
 
@@ -100,9 +101,7 @@ where
 // Whether a proof that can be judged is accepted, as `verify` says, once the challenger is seeded.
 fn verify_seeded<Val, EF, InputMmcs, FriMmcs, C>(
     alloc: Global,
-    pcs: &CirclePcs<Val, InputMmcs, FriMmcs>,
-    statement: &StarkStatement<Val>,
-    log_chunks: usize,
+    provable: &ProvableOver<'_, Val, EF, InputMmcs, FriMmcs, C>,
     proof: &StarkProof<Val, EF, InputMmcs, FriMmcs>,
     challenger: &mut C,
 ) -> Result<(), StarkError<VerifierError<InputMmcs::Error, FriMmcs::Error>>>
@@ -116,23 +115,19 @@ where
         + GrindingChallenger<Val>
         + CanObserve<InputMmcs::Commitment>
         + CanObserve<FriMmcs::Commitment>,
-    requires provable { IsProvable Val.CIRCLE_TWO_ADICITY pcs.now.fri_params
-        (statement_of statement.now) log_chunks }
-    requires shape { HasShape EF.DEGREE (statement_of statement.now).parts.width log_chunks
-        (values_of proof.now.opened_values) }
-    ensures accepted { let p = ⟦<CirclePcs<Val, InputMmcs, FriMmcs> as StarkRelation<EF, C>>⟧ in
-        OnOk result (p.accepts pcs.now statement.now challenger.old challenger.new proof.now) }
-    ensures complete { let p = ⟦<CirclePcs<Val, InputMmcs, FriMmcs> as StarkRelation<EF, C>>⟧ in
-        IfErr result (λ e. p.holds pcs.now statement.now proof.now challenger.old → e ≡ Memory) }
-    ensures reason { let p = ⟦<CirclePcs<Val, InputMmcs, FriMmcs> as StarkRelation<EF, C>>⟧ in
-        IfErr result (p.refuses_seeded pcs.now statement.now proof.now log_chunks challenger.old
-        challenger.new) }
+    requires shape { HasShape EF.DEGREE (stated_by provable.now).parts.width
+        provable.now.log_chunks (values_of proof.now.opened_values) }
+    ensures accepted { OnOk result
+        (Accepts provable.now challenger.old challenger.new proof.now) }
+    ensures complete { IfErr result (λ e. Holds provable.now challenger.old proof.now → e ≡ Memory) }
+    ensures reason { IfErr result
+        (Refuses provable.now proof.now challenger.old challenger.new) }
 {
-    let log_n = statement.log_n;
+    let log_n = provable.statement.log_n;
     let trace = &proof.trace_commitment;
     let drawn = draw(
         alloc,
-        statement,
+        provable,
         trace,
         &proof.quotient_commitment,
         challenger,
@@ -143,10 +138,11 @@ where
         None => return Err(StarkError::UnfitPoint),
     };
     let claims = claims_of(alloc, log_n, proof, OpenedPoints { zeta, next })?;
-    match pcs.verify(alloc, claims, &proof.opening_proof, challenger) {
+    match provable.pcs.verify(alloc, claims, &proof.opening_proof, challenger) {
         Ok(()) => {}
         Err(error) => return Err(refusal_of(error)),
     }
+    let (statement, log_chunks) = (&provable.statement, provable.log_chunks);
     if !has_identity(alloc, statement, log_chunks, &proof.opened_values, drawn)? {
         return Err(StarkError::OodEvaluationMismatch);
     }
@@ -197,5 +193,11 @@ where
         IfErr result (p.refuses pcs.now statement.entry proof.now challenger.old challenger.new) }
 {
     let log_chunks = validate(&pcs.fri_params, &statement, proof)?;
-    verify_seeded(alloc, pcs, &statement, log_chunks, proof, challenger)
+    let provable = ProvableStatement {
+        pcs,
+        statement,
+        log_chunks,
+        of: PhantomData,
+    };
+    verify_seeded(alloc, &provable, proof, challenger)
 }

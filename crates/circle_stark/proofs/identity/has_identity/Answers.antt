@@ -1,7 +1,6 @@
 use Rattle.std.proofs.Common.{◌∙◌, ap, sym}
 use Rattle.circle_air.specs.Air.{air_of}
 use Rattle.circle_air.specs.Valid.{valid}
-use Rattle.circle_relation.specs.Accepts.{Fields}
 use Rattle.circle_stark.specs.Statement.{statement_of, values_of}
 use Rattle.circle_stark.proofs.Fixed.{identity-shown, identity-told}
 use Rattle.circle_stark.proofs.identity.has_identity.Goals as goal
@@ -9,15 +8,9 @@ use Rattle.circle_stark.proofs.identity.has_identity.Goals as goal
 pub returns : goal.returns
 returns g c =
     let l = g.EF.Operations.ops in
-    let fields : Fields g.row.F.Denot g.row.EF.Denot = record {
-      field = g.F.Operations.ops;
-      gen = g.F.ComplexExtendable.generators;
-      two_adicity = g.F.ComplexExtendable.CIRCLE_TWO_ADICITY;
-      is_zero = λ w. g.F.PartialEq.eq w g.F.Field.ZERO;
-      extension = l;
-      embed = g.EF.ExtensionField.embed;
-      same = g.EF.PartialEq.eq;
-    } in
+    let k = g.F.Operations.ops in
+    let gen = g.F.ComplexExtendable.generators in
+    let m = g.EF.ExtensionField.embed in
     let s = statement_of c.args.statement.now in
     let v = values_of c.args.values.now in
     let air = c.args.statement.now.air.now in
@@ -29,12 +22,12 @@ returns g c =
     let composed = c.in_ok-sides.ensures.composed in
     let recomposed = c.in_ok-sides.ensures.recomposed in
     let same = g.met.EF.Field.eq_law sides.composition c.mul.result in (
-      λ holds. identity-shown fields s v c.args.drawn.alpha c.args.drawn.zeta powers
+      λ holds. identity-shown k gen l m s v c.args.drawn.alpha c.args.drawn.zeta powers
           g.EF.ExtensionField.coefficients g.EF.ExtensionField.DEGREE c.args.log_chunks told
           sides.composition sides.quotient composed recomposed
           (same.0 (sym c.eq.ensures ∙ holds) ∙ product),
       λ h. c.eq.ensures ∙ same.1
-          (identity-told fields s v c.args.drawn.alpha c.args.drawn.zeta powers
+          (identity-told k gen l m s v c.args.drawn.alpha c.args.drawn.zeta powers
           g.EF.ExtensionField.coefficients g.EF.ExtensionField.DEGREE c.args.log_chunks told
           sides.composition sides.quotient composed recomposed h ∙ sym product),
     )

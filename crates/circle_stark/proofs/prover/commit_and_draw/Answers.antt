@@ -1,3 +1,5 @@
+use Rattle.circle_stark.specs.OfProvable.{own_of}
+use Rattle.circle_stark.proofs.Verdicts.{drawn-in-turn}
 use Rattle.circle_stark.proofs.prover.commit_and_draw.Goals as goal
 
 pub commit_quotient-requires-clause-kept : goal.commit_quotient-requires-clause-kept
@@ -9,3 +11,9 @@ commit_quotient-requires-clause-kept g c =
       columns = c.requires.width;
       extended = trace.committed.extended;
     }
+
+pub returns-clause-drawn : goal.returns-clause-drawn
+returns-clause-drawn g c =
+    drawn-in-turn (own_of c.args.provable.now) _ _ _ _ _ _ _ _ c.in_ok-run.ensures.alpha
+    c.in_ok-run.ensures.state c.out_of_domain_point-zeta.ensures.zeta
+    c.out_of_domain_point-zeta.ensures.state

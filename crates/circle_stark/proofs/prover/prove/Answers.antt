@@ -55,20 +55,17 @@ words g = run_moves g.C.ChallengerState.state g.C.CanObserve-1.after_observe
     g.EF.ExtensionField.DEGREE g.EF.ExtensionField.coefficients (of_nat g.Val.Operations.ops)
     g.Val.Operations.ops.zero
 
-pub prove_satisfied-requires-clause-provable : goal.prove_satisfied-requires-clause-provable
-prove_satisfied-requires-clause-provable g c = λ kk log.
+pub invariant_of-provable : goal.invariant_of-provable
+invariant_of-provable g c =
     let t = c.args.trace in
-    let parts = air_of t.air.now in
-    let two = g.Val.ComplexExtendable.CIRCLE_TWO_ADICITY in
-    let params = c.args.pcs.now.fri_params in
     let sizes = c.in_ok-sizes.sizes in
     let at : ℕ → Statement g.row.Val.Denot = λ i.
-    record { parts = parts; log_n = i; public_values = t.public_values.now } in
-    let able : IsProvable two params (at sizes.log_n) sizes.log_chunks =
-    subst (λ i. IsProvable two params (at i) sizes.log_chunks) (sym c.in_ok-sizes.ensures.log_n)
-    c.in_ok-sizes.ensures.provable in
-    subst (IsProvable two params (at sizes.log_n))
-    (same-log (degree_of_parts parts) sizes.log_chunks kk able.domains.chunks log) able
+    record { parts = air_of t.air.now; log_n = i; public_values = t.public_values.now } in
+    record {
+      provable = subst
+          (λ i. IsProvable g.Val.ComplexExtendable.CIRCLE_TWO_ADICITY c.args.pcs.now.fri_params
+          (at i) sizes.log_chunks) (sym c.in_ok-sizes.ensures.log_n) c.in_ok-sizes.ensures.provable;
+    }
 
 pub returns-clause-accepted : goal.returns-clause-accepted
 returns-clause-accepted g c =
