@@ -64,13 +64,17 @@ ReadsOwnRowsIf {F = F} {E = E} f gen kept p requests values =
     (k : Fields F E) → IsOver f gen k → AreReadAsIs kept k p requests
     → map (λ m. m.rows) (answered_matrices k p kept requests values) ≡ requested_rows kept requests
 
--- the values are those of the polynomials of the batches that the requested data were kept of;
 -- inputs is the scheme of the batches
-abbrev pub AreTrueAnswers : {F E I W IC ID IP IE : Type 0} → Ghosts F
-    → (ℕ → Coordinates F) → FieldOps E → (F → E) → MmcsOf I F IC ID IP IE → CirclePcs F I W
-    → List (OpeningRequest ID E) → Openings E → Type 0
-AreTrueAnswers {F = F} g gen l embed inputs pcs =
-    AreTrueValues {Dom = CircleDomain F g} {M = RowMajorMatrix F}
-    (λ batch commitment kept. IsCommitted g.ops gen pcs.fri_params.log_blowup
-    (inputs.commits pcs.mmcs) batch commitment (inputs.matrices kept))
-    (AreBatchValues g.ops gen l embed)
+module _ {F I W IC ID IP IE : Type 0} where
+  -- the batch has this commitment, and these data are kept of it
+  abbrev pub IsCommittedUnder : {g : Ghosts F} → (ℕ → Coordinates F) → MmcsOf I F IC ID IP IE
+      → CirclePcs F I W → List (CircleDomain F g × RowMajorMatrix F) → IC → ID → Type 0
+  IsCommittedUnder {g = g} gen inputs pcs batch commitment kept =
+      IsCommitted g.ops gen pcs.fri_params.log_blowup (inputs.commits pcs.mmcs) batch commitment
+      (inputs.matrices kept)
+
+  -- the values are those of the polynomials of the batches that the requested data were kept of
+  abbrev pub AreTrueAnswers : {E : Type 0} → Ghosts F → (ℕ → Coordinates F) → FieldOps E → (F → E)
+      → MmcsOf I F IC ID IP IE → CirclePcs F I W → List (OpeningRequest ID E) → Openings E → Type 0
+  AreTrueAnswers g gen l embed inputs pcs =
+      AreTrueValues (IsCommittedUnder {g = g} gen inputs pcs) (AreBatchValues g.ops gen l embed)

@@ -9,11 +9,11 @@ ghost use Rattle.circle_prover.specs.Opening.{IsFailure};
 ghost use Rattle.circle_prover.specs.Requesting.{opening_tests};
 ghost use Rattle.circle_verifier.specs.Tests.{run_tests};
 ghost use Rattle.p3_circle.specs.Scheme.{AreCommittedTo, AreExtended, CanBeDegree, CanBeEvaluated};
-ghost use Rattle.p3_circle.specs.Scheme.{HaveCommittedHeights, IsCommitted, IsFirstFrom, IsFirstOf};
+ghost use Rattle.p3_circle.specs.Scheme.{HaveCommittedHeights, IsFirstFrom, IsFirstOf};
 ghost use Rattle.p3_circle.specs.Scheme.{IsGiven, IsStandardOfSize, says_memory};
 ghost use Rattle.p3_circle.specs.Scheme.{says_prover_memory};
 ghost use Rattle.p3_circle.specs.Verdict.{IsAccepted, IsRefused};
-ghost use Rattle.p3_circle.specs.Calls.{IsAnswer, IsOfMemoryIf};
+ghost use Rattle.p3_circle.specs.Calls.{IsAnswer, IsCommittedUnder, IsOfMemoryIf};
 ghost use Rattle.circle_domain.specs.Domain.{log_size};
 ghost use Rattle.std.specs.Prelude.{◌+◌, ◌-◌, ◌^◌, min, IfErr, IfOk, OnOk};
 
@@ -61,9 +61,7 @@ where
 
     ghost commit_asks = { λ pcs. HaveRowsForPoints };
 
-    ghost commits = { λ pcs batch commitment kept. IsCommitted Val.ops Val.generators
-        pcs.fri_params.log_blowup (InputMmcs.commits pcs.mmcs) batch commitment
-        (InputMmcs.matrices kept) };
+    ghost commits = { IsCommittedUnder Val.generators InputMmcs.Mmcs };
 
     ghost commit_refuses = { λ pcs batch. IsFirstOf
         (commit_tests Val.CIRCLE_TWO_ADICITY pcs.fri_params Val.eq Val.ops batch) };
@@ -141,9 +139,8 @@ where
         evaluations: Vec<(CircleDomain<Val>, RowMajorMatrix<Val>)>,
     ) -> Result<(InputMmcs::Commitment, InputMmcs::ProverData), ProverError>
         requires { HaveRowsForPoints evaluations.items }
-        ensures committed { let commits = InputMmcs.commits self.now.mmcs in IfOk result
-            (λ r. IsCommitted Val.ops Val.generators self.now.fri_params.log_blowup commits
-            evaluations.items r.0 (InputMmcs.matrices r.1)) }
+        ensures committed { IfOk result (λ r. IsCommittedUnder Val.generators InputMmcs.Mmcs
+            self.now evaluations.items r.0 r.1) }
         ensures refused { IfErr result (IsFirstOf (commit_tests Val.CIRCLE_TWO_ADICITY
             self.now.fri_params Val.eq Val.ops evaluations.items)) }
     {
