@@ -123,7 +123,8 @@ module _ {F E : Type 0} (k : FieldOps F) (gen : ℕ → Coordinates F) (l : Fiel
       equal = equal;
     }
 
-    pub identity-told : HasIdentity k gen l m s coefficients degree log_chunks v alpha zeta → Matches
+    pub identity-told : HasIdentity k gen l m s coefficients degree log_chunks v alpha zeta →
+        Matches
     identity-told h =
         same-composition value h.value composed h.composed ∙ h.equal
         ∙ ap (l.mul (vanishing l s.log_n (from_line l zeta)))

@@ -1,5 +1,6 @@
 -- What is requested of a trace and of chunks, and in what lists it is returned.
-use Rattle.std.specs.Prelude.{◌≡◌, ℕ, ◌*◌, ◌%◌, ◌^◌, ◌≤◌, List, [], ◌∷◌, length, map, replicate, zip, All}
+use Rattle.std.specs.Prelude.{◌≡◌, ℕ, ◌*◌, ◌%◌, ◌^◌, ◌≤◌, List, [], ◌∷◌, length, map, replicate}
+use Rattle.std.specs.Prelude.{zip, All}
 use Rattle.std.specs.List.{AllZip}
 use Rattle.std.proofs.Common.{zero, suc, sym, ◌∙◌, ap, refl, subst, arith}
 use Rattle.std.proofs.lemmas.List.{length-replicate}

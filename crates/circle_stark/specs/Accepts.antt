@@ -22,6 +22,7 @@ use Rattle.circle_relation.specs.Accepts.{AcceptsFrom, Authenticates, Fields}
 use Rattle.circle_stark.specs.Claims.{claims_at}
 use Rattle.circle_stark.specs.Draw.{AreDrawn, Described}
 use Rattle.circle_stark.specs.Provable.{HasShape, IsProvable}
+use Rattle.circle_stark.specs.Schemes.{ProvedOver, Schemes, described}
 use Rattle.circle_stark.specs.Statement.{OpenedValues, Proved, Statement}
 
 module _ {F E : Type 0} (k : FieldOps F) (gen : ℕ → Coordinates F) (l : FieldOps E) (embed : F → E)
@@ -84,3 +85,10 @@ module _ {C S F E M IC WC IP WP : Type 0} (k : Fields F E) (params : FriParamete
     pub identity :
         HasIdentity k.field k.gen k.extension k.embed s own.base.coefficients own.base.degree
         log_chunks p.opened alpha zeta
+
+-- over the scheme pcs, a verifier in the one state accepts the proof, and leaves the other
+abbrev pub Accepts : {P C S F E : Type 0} (o : Schemes P C S F E) → P → Statement F → ProvedOver o
+    → S → S → Type 0
+Accepts o pcs s =
+    StarkAccepts o.fields (o.params pcs) o.own o.words (o.authenticates pcs)
+    (o.word_authenticates pcs) (described o s) s

@@ -9,7 +9,8 @@ use Rattle.circle_field.specs.declared.field.Operations.{Ghosts}
 use Rattle.circle_point.specs.Projective.{to_line}
 use Rattle.circle_relation.specs.Accepts.{Fields}
 use Rattle.circle_stark.specs.Draw.{AreDrawn, Described}
-use Rattle.circle_stark.specs.Statement.{Proved}
+use Rattle.circle_stark.specs.Schemes.{ProvedOver, Schemes, described}
+use Rattle.circle_stark.specs.Statement.{Proved, Statement}
 use Rattle.p3_circle.specs.Honest.{AreValuesOfRows}
 
 -- at the zeta that is drawn from the state old, and at the next point, the opened values of the
@@ -28,3 +29,8 @@ pub record OpensRows {C S F E IC WC IP WP : Type 0} (g : Ghosts F) (k : Fields F
       AreValuesOfRows k (domain, x)
       (zeta ∷ to_line k.extension (next_from k.extension k.embed k.gen n zeta) ∷ [])
       (p.opened.local ∷ p.opened.next ∷ [])
+
+-- over a scheme, the proof, made from the state, opens the rows
+abbrev pub Opens : {P C S F E : Type 0} (o : Schemes P C S F E) → Statement F → RowMajorMatrix F
+    → S → ProvedOver o → Type 0
+Opens o s x = OpensRows o.operations o.fields o.own (described o s) s.log_n x

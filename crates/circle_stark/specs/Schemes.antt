@@ -9,14 +9,8 @@ use Rattle.circle_field.specs.declared.field.Operations.{Ghosts}
 use Rattle.circle_relation.specs.Accepts.{Authenticates, Fields}
 use Rattle.circle_relation.specs.Statement.{BatchClaim}
 use Rattle.circle_relation.specs.declared.error.ProverError.{ProverError}
-use Rattle.circle_stark.specs.Accepts.{StarkAccepts}
 use Rattle.circle_stark.specs.Draw.{Described}
-use Rattle.circle_stark.specs.OpensRows.{OpensRows}
 use Rattle.circle_stark.specs.Statement.{Proved, Statement, described_by}
-use Rattle.circle_stark.specs.Unproved.{IsTraceUnprovedFor, IsUnprovedFor}
-use Rattle.circle_stark.specs.Verdict.{IsRefusedFor}
-use Rattle.circle_stark.specs.declared.error.StarkError.{StarkError}
-use Rattle.circle_stark.specs.declared.error.StarkProverError.{StarkProverError}
 
 -- a scheme of type P over the fields F and E, with challengers of type C that have the states S
 pub record Schemes (P C S F E : Type 0) : Type 1 where
@@ -56,37 +50,6 @@ module _ {P C S F E : Type 0} (o : Schemes P C S F E) where
   abbrev pub described : Statement F → Described F
   described s = described_by o.bytes o.num_bytes s
 
+  -- the proofs, as contracts see them
   abbrev pub ProvedOver : Type 0
   ProvedOver = Proved F E o.Commitment o.WordCommitment o.RowsProof o.WordRowsProof
-
-  -- a proof, made from the state, opens the rows
-  abbrev pub Opens : Statement F → RowMajorMatrix F → S → ProvedOver → Type 0
-  Opens s x = OpensRows o.operations o.fields o.own (described s) s.log_n x
-
-  -- over the scheme pcs
-  module _ (pcs : P) where
-    -- from one state a proof is accepted, which leaves the other
-    abbrev pub Accepts : Statement F → ProvedOver → S → S → Type 0
-    Accepts s =
-        StarkAccepts o.fields (o.params pcs) o.own o.words (o.authenticates pcs)
-        (o.word_authenticates pcs) (described s) s
-
-    -- or refused, where its quotient has 2^kk chunks, once the challenger is seeded
-    abbrev pub Refuses :
-        o.Opening → Statement F → ProvedOver → ℕ → S → S → StarkError o.Error → Type 0
-    Refuses opening s p =
-        IsRefusedFor o.fields (o.params pcs) o.own o.words (o.authenticates pcs)
-        (o.word_authenticates pcs) (o.RefusesClaims pcs opening) (described s) s p
-
-    -- there is no proof of rows that satisfy the statement
-    abbrev pub IsUnproved : Statement F → ℕ → RowMajorMatrix F → S → S → StarkProverError → Type 0
-    IsUnproved s =
-        IsUnprovedFor o.operations o.fields o.own (o.params pcs).log_blowup (o.Commits pcs) o.kept
-        (o.RefusesToOpen pcs) (described s) s
-
-    -- or of rows that were not checked yet
-    abbrev pub IsTraceUnproved :
-        Statement F → ℕ → RowMajorMatrix F → C → C → StarkProverError → Type 0
-    IsTraceUnproved s kk x =
-        IsTraceUnprovedFor o.operations o.fields o.own (o.params pcs).log_blowup (o.Commits pcs)
-        o.kept (o.RefusesToOpen pcs) (described s) s kk x o.own.base.state

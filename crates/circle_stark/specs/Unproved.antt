@@ -16,6 +16,7 @@ use Rattle.circle_relation.specs.Accepts.{Fields}
 use Rattle.circle_relation.specs.declared.error.ProverError.{ProverError}
 use Rattle.circle_stark.specs.Draw.{AreDrawn, Described}
 use Rattle.circle_stark.specs.Honest.{IsQuotientCommitted, IsTraceCommitted}
+use Rattle.circle_stark.specs.Schemes.{Schemes, described}
 use Rattle.circle_stark.specs.Statement.{Statement}
 use Rattle.circle_stark.specs.Trace.{refusal_by}
 use Rattle.circle_stark.specs.declared.error.StarkProverError.{StarkProverError}
@@ -100,3 +101,17 @@ module _ {C S D F E Com : Type 0} (g : Ghosts F) (k : Fields F E) (own : RunMove
       (e ≡ Memory) ⊎ (IsViolatedBy k.field s x old new e
       ⊎ (Satisfies k.field s.parts (rows x) s.public_values
       × IsUnopenedRun (state old) (state new) e))
+
+-- over the scheme pcs, there is no proof of rows that satisfy the statement, or of a trace that
+-- passes the tests
+module _ {P C S F E : Type 0} (o : Schemes P C S F E) (pcs : P) where
+  abbrev pub IsUnproved : Statement F → ℕ → RowMajorMatrix F → S → S → StarkProverError → Type 0
+  IsUnproved s =
+      IsUnprovedFor o.operations o.fields o.own (o.params pcs).log_blowup (o.Commits pcs) o.kept
+      (o.RefusesToOpen pcs) (described o s) s
+
+  abbrev pub IsTraceUnproved :
+      Statement F → ℕ → RowMajorMatrix F → C → C → StarkProverError → Type 0
+  IsTraceUnproved s kk x =
+      IsTraceUnprovedFor o.operations o.fields o.own (o.params pcs).log_blowup (o.Commits pcs)
+      o.kept (o.RefusesToOpen pcs) (described o s) s kk x o.own.base.state

@@ -15,6 +15,7 @@ use Rattle.p3_circle.specs.Scheme.{says_memory}
 use Rattle.circle_stark.specs.Accepts.{HasIdentity, OpensAt}
 use Rattle.circle_stark.specs.Claims.{claims_at}
 use Rattle.circle_stark.specs.Draw.{AreDrawn, Described}
+use Rattle.circle_stark.specs.Schemes.{ProvedOver, Schemes, described}
 use Rattle.circle_stark.specs.Statement.{Proved, Statement}
 use Rattle.circle_stark.specs.declared.error.StarkError.{StarkError}
 use Rattle.circle_stark.specs.declared.error.StarkError.TheVariants.{InvalidOpening, Memory}
@@ -77,3 +78,11 @@ pub record IsOpeningRefused {S E IC D Proof Error : Type 0} {g : _}
   pub claims : List (CommitmentOpening E IC (CircleDomain D g))
   pub claimed : batch_claims claims ≡ batches
   pub refused : Refuses claims proof old new error
+
+-- over the scheme pcs, a verifier in the one state, seeded from there, refuses the proof, whose
+-- quotient has 2^kk chunks, and leaves the other
+abbrev pub Refuses : {P C S F E : Type 0} (o : Schemes P C S F E) → P → o.Opening → Statement F
+    → ProvedOver o → ℕ → S → S → StarkError o.Error → Type 0
+Refuses o pcs opening s p =
+    IsRefusedFor o.fields (o.params pcs) o.own o.words (o.authenticates pcs)
+    (o.word_authenticates pcs) (o.RefusesClaims pcs opening) (described o s) s p

@@ -21,9 +21,9 @@
 //! Its files:
 //!
 //! - In `src/`, `verifier.rt`: `verify`. `statement.rt`: what is refused before the challenger is
-//!   seeded. `provable.rt`: a statement that passed the tests, as a value that carries what is known
-//!   of it, of its scheme and of the challengers. `transcript.rt`: what is drawn before the scheme's
-//!   transcript. `claims.rt`: the claims of a proof. `identity.rt`: both sides of the identity.
+//!   seeded. `provable.rt`: a statement that passed the tests, whose type carries what is known of
+//!   its scheme and challengers. `transcript.rt`: what is drawn before the scheme's transcript.
+//!   `claims.rt`: the claims of a proof. `identity.rt`: both sides of the identity.
 //!   `prover.rt`: `prove`. `trace.rt`: what is refused of a trace. `committing.rt`, `opening.rt`:
 //!   what a prover commits to and opens. `round_trip.rt`: `prove_and_verify`. `relation.rt`: what
 //!   contracts cite.

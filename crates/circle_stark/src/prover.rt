@@ -77,8 +77,12 @@ where
     let (trace_commitment, trace_data) = commit_trace(alloc, provable, rows)?;
     let run = constraint_challenge(alloc, provable, challenger, &trace_commitment)?;
     let alpha = run.alpha;
-    let (quotient_commitment, quotient_data) =
-        commit_quotient(alloc, provable, &trace_data, alpha)?;
+    let (quotient_commitment, quotient_data) = commit_quotient(
+        alloc,
+        provable,
+        &trace_data,
+        alpha,
+    )?;
     let zeta = run.out_of_domain_point(challenger, &quotient_commitment);
     Ok(CommittedRun {
         trace_commitment,
@@ -155,9 +159,11 @@ where
     ensures unopened { IfErr result (IsUnopenedAt provable.now run.now.trace_data
         run.now.quotient_data run.now.drawn.zeta challenger.old challenger.new) }
     ensures next { OnOk result (from_line EF.ops (next_of provable.now run.now.drawn.zeta)
-        ≡ next_from EF.ops EF.embed Val.generators provable.now.statement.log_n run.now.drawn.zeta) }
+        ≡ next_from EF.ops EF.embed Val.generators provable.now.statement.log_n
+        run.now.drawn.zeta) }
     ensures opened { IfOk result (λ r. AreOpenedAt provable.now run.now.trace_data
-        run.now.quotient_data run.now.drawn.zeta (values_of r.0) r.1 challenger.old challenger.new) }
+        run.now.quotient_data run.now.drawn.zeta (values_of r.0) r.1 challenger.old
+        challenger.new) }
 {
     let zeta = run.drawn.zeta;
     let next = match is_fit::<Val, EF>(provable.statement.log_n, zeta) {

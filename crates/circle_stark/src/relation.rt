@@ -3,12 +3,14 @@ ghost use Rattle.std.specs.Prelude.{ℕ};
 ghost use Rattle.circle_air.specs.Degrees.{IsLogOfChunks, degree_of_parts};
 ghost use Rattle.circle_commit.specs.Honest.{AreTrueValues};
 ghost use Rattle.circle_commit.specs.declared.matrix.RowMajorMatrix.{RowMajorMatrix};
+ghost use Rattle.circle_stark.specs.Accepts.{Accepts};
+ghost use Rattle.circle_stark.specs.OpensRows.{Opens};
 ghost use Rattle.circle_stark.specs.Refusals.{stark_tests};
-ghost use Rattle.circle_stark.specs.Schemes.{Accepts, IsTraceUnproved, IsUnproved, Opens, Refuses};
 ghost use Rattle.circle_stark.specs.Schemes.{Schemes};
 ghost use Rattle.circle_stark.specs.Statement.{proved_of, statement_of, values_of};
 ghost use Rattle.circle_stark.specs.Trace.{stated, tests_of_trace};
-ghost use Rattle.circle_stark.specs.Verdict.{IsOpeningRefused};
+ghost use Rattle.circle_stark.specs.Unproved.{IsTraceUnproved, IsUnproved};
+ghost use Rattle.circle_stark.specs.Verdict.{IsOpeningRefused, Refuses};
 ghost use Rattle.p3_circle.specs.Scheme.{IsFirstFrom};
 ghost use Rattle.circle_stark.specs.declared.error.StarkError.{StarkError};
 ghost use Rattle.circle_stark.specs.declared.error.StarkProverError.{StarkProverError};
@@ -29,7 +31,8 @@ pub trait StarkSchemes<EF, C: ChallengerState> {
     /// The entries of a trace.
     type Entry;
 
-    // The fields, the schemes of the batches and of the codewords, and what a challenger is to both.
+    // The fields, the schemes of the batches and of the codewords, and what a challenger is to
+    // both.
     ghost schemes: { Schemes Self C C.State Self.Entry EF };
 }
 

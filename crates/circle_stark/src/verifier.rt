@@ -119,7 +119,8 @@ where
         provable.now.log_chunks (values_of proof.now.opened_values) }
     ensures accepted { OnOk result
         (Accepts provable.now challenger.old challenger.new proof.now) }
-    ensures complete { IfErr result (λ e. Holds provable.now challenger.old proof.now → e ≡ Memory) }
+    ensures complete { IfErr result
+        (λ e. Holds provable.now challenger.old proof.now → e ≡ Memory) }
     ensures reason { IfErr result
         (Refuses provable.now proof.now challenger.old challenger.new) }
 {
@@ -138,7 +139,10 @@ where
         None => return Err(StarkError::UnfitPoint),
     };
     let claims = claims_of(alloc, log_n, proof, OpenedPoints { zeta, next })?;
-    match provable.pcs.verify(alloc, claims, &proof.opening_proof, challenger) {
+    match provable
+        .pcs
+        .verify(alloc, claims, &proof.opening_proof, challenger)
+    {
         Ok(()) => {}
         Err(error) => return Err(refusal_of(error)),
     }

@@ -9,7 +9,8 @@ returns-in-Ok-clause-committed g c =
       domain = c.standard-domain.result;
       standard = (
         c.standard-domain.ensures.size,
-        c.standard-domain.ensures.shift ∙ ap (λ i. gen (i + 1)) (sym c.standard-domain.ensures.size),
+        c.standard-domain.ensures.shift
+            ∙ ap (λ i. gen (i + 1)) (sym c.standard-domain.ensures.size),
       );
       committed = record {
         extended = subst

@@ -3,8 +3,9 @@ use Rattle.circle_air.specs.Air.{air_of}
 use Rattle.circle_air.specs.Degrees.{degree_of_parts}
 use Rattle.circle_air.specs.Valid.{valid}
 use Rattle.circle_stark.specs.OfProvable.{schemes_of, stated_by}
-use Rattle.circle_stark.specs.Schemes.{IsUnproved, described}
+use Rattle.circle_stark.specs.Schemes.{described}
 use Rattle.circle_stark.specs.Statement.{values_of}
+use Rattle.circle_stark.specs.Unproved.{IsUnproved}
 use Rattle.circle_stark.specs.declared.error.StarkProverError.TheVariants.{Memory}
 use Rattle.circle_stark.proofs.CommittedValues.{one-kept}
 use Rattle.circle_stark.proofs.HonestRun.{proved, shape}
