@@ -1,6 +1,6 @@
 -- What a statement that can be proved over a scheme fixes, as clauses see it. What is known of the
 -- scheme and its challengers is an argument of the statement's type.
-use Rattle.std.specs.Prelude.{ℕ, ◌^◌}
+use Rattle.std.specs.Prelude.{◌^◌}
 use Rattle.circle_challenger.specs.Moves.{RunMoves}
 use Rattle.circle_commit.specs.declared.matrix.RowMajorMatrix.{RowMajorMatrix}
 use Rattle.circle_domain.specs.Selectors.{next_from}

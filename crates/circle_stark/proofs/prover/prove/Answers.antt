@@ -7,7 +7,6 @@ use Rattle.circle_prover.specs.Requesting.{opening_tests}
 use Rattle.p3_circle.specs.Scheme.{IsFirstFrom}
 use Rattle.circle_commit.specs.RowMajorMatrix.{rows}
 use Rattle.circle_air.specs.Air.{air_of}
-use Rattle.circle_air.specs.Degrees.{degree_of_parts}
 use Rattle.circle_challenger.specs.Moves.{RunMoves, run_moves}
 use Rattle.circle_field.specs.Field.{of_nat}
 use Rattle.circle_relation.specs.Accepts.{Fields}
@@ -16,7 +15,6 @@ use Rattle.circle_stark.specs.OpensRows.{OpensRows}
 use Rattle.circle_stark.specs.Provable.{IsProvable}
 use Rattle.circle_stark.specs.Statement.{Statement, described_by, proved_of}
 use Rattle.circle_stark.specs.Unproved.{IsTraceUnprovedFor}
-use Rattle.circle_stark.proofs.Passing.{same-log}
 use Rattle.circle_stark.proofs.Unopened.{after-tests, at-first, found-violation, named-violation}
 use Rattle.circle_stark.proofs.Unopened.{no-violation, none-first, none-found, of-satisfied}
 use Rattle.circle_stark.proofs.Unopened.{on-ok, unopened-violation}
