@@ -1,10 +1,10 @@
 -- What a statement that can be proved over a scheme fixes, as clauses see it. What is known of the
 -- scheme and its challengers is an argument of the statement's type.
-use Rattle.std.specs.Prelude.{◌^◌}
+use Rattle.std.specs.Prelude.{◌≡◌, ◌^◌}
 use Rattle.circle_challenger.specs.Moves.{RunMoves}
 use Rattle.circle_commit.specs.declared.matrix.RowMajorMatrix.{RowMajorMatrix}
 use Rattle.circle_domain.specs.Selectors.{next_from}
-use Rattle.circle_point.specs.Projective.{to_line}
+use Rattle.circle_point.specs.Projective.{from_line, to_line}
 use Rattle.circle_quotient.specs.Fit.{IsFit}
 use Rattle.circle_relation.specs.Accepts.{Fields}
 use Rattle.circle_stark.specs.Draw.{AreDrawn, Described, after_statement}
@@ -101,6 +101,12 @@ module _ {P E C Proof Error F S : Type 0} {relation over states : _}
   next_of zeta =
       to_line fields_of.extension
       (next_from fields_of.extension fields_of.embed fields_of.gen t.statement.log_n zeta)
+
+  -- that point is the one of its coordinate
+  abbrev pub HasNext : E → Type 0
+  HasNext zeta =
+      from_line fields_of.extension (next_of zeta)
+      ≡ next_from fields_of.extension fields_of.embed fields_of.gen t.statement.log_n zeta
 
   module _ (trace quotient : over.schemes.ProverData) (zeta : E) where
     -- nothing is opened of what is kept of the trace and of its quotient

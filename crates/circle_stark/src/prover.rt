@@ -5,11 +5,9 @@ ghost use Rattle.circle_commit.specs.Honest.{AreTrueValues};
 ghost use Rattle.circle_commit.specs.Mmcs.{HaveHeightsOfPowers};
 ghost use Rattle.circle_commit.specs.Pcs.{openings};
 ghost use Rattle.circle_commit.specs.RowMajorMatrix.{height_of, rows as rows_of, width_of};
-ghost use Rattle.circle_domain.specs.Selectors.{next_from};
-ghost use Rattle.circle_point.specs.Projective.{from_line};
 ghost use Rattle.circle_stark.specs.OfProvable.{Accepts, AreOpenedAt, CanBeOpened, CommitsTo};
-ghost use Rattle.circle_stark.specs.OfProvable.{CommitsToQuotient, Draws, IsUnopened};
-ghost use Rattle.circle_stark.specs.OfProvable.{IsUnopenedAt, Opens, next_of, stated_by};
+ghost use Rattle.circle_stark.specs.OfProvable.{CommitsToQuotient, Draws, HasNext, IsUnopened};
+ghost use Rattle.circle_stark.specs.OfProvable.{IsUnopenedAt, Opens, stated_by};
 ghost use Rattle.circle_stark.specs.Statement.{values_of};
 ghost use Rattle.circle_stark.specs.Trace.{IsFirstTraceRefusal, NamesViolation, refusal_by};
 ghost use Rattle.circle_stark.specs.Trace.{stated, statement_by};
@@ -158,9 +156,7 @@ where
     ensures fit { OnOk result (CanBeOpened provable.now run.now.drawn.zeta) }
     ensures unopened { IfErr result (IsUnopenedAt provable.now run.now.trace_data
         run.now.quotient_data run.now.drawn.zeta challenger.old challenger.new) }
-    ensures next { OnOk result (from_line EF.ops (next_of provable.now run.now.drawn.zeta)
-        ≡ next_from EF.ops EF.embed Val.generators provable.now.statement.log_n
-        run.now.drawn.zeta) }
+    ensures next { OnOk result (HasNext provable.now run.now.drawn.zeta) }
     ensures opened { IfOk result (λ r. AreOpenedAt provable.now run.now.trace_data
         run.now.quotient_data run.now.drawn.zeta (values_of r.0) r.1 challenger.old
         challenger.new) }
