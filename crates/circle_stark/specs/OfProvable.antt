@@ -18,8 +18,8 @@ use Rattle.circle_stark.specs.declared.error.StarkProverError.{StarkProverError}
 use Rattle.circle_stark.specs.declared.provable.ProvableStatement.{ProvableStatement}
 
 -- the relation's members are in `relation`, those of the schemes in `over`
-module _ {P E C Proof Error F S : Type 0} {relation over states : _}
-    (t : ProvableStatement P E C Proof Error F S relation over states) where
+module _ {P E C Error F Proof S : Type 0} {relation over states : _}
+    (t : ProvableStatement P E C Error F Proof S relation over states) where
   abbrev pub stated_by : Statement F
   stated_by = statement_of t.statement
 

@@ -31,6 +31,10 @@ pub trait StarkSchemes<EF, C: ChallengerState> {
     /// The entries of a trace.
     type Entry;
 
+    /// The proofs. Stated here, since the kit can't quote an impl at types of its own whose
+    /// associated types leave some of its parameters out.
+    type Proof;
+
     // The fields, the schemes of the batches and of the codewords, and what a challenger is to
     // both.
     ghost schemes: { Schemes Self C C.State Self.Entry EF };
@@ -48,6 +52,8 @@ where
         + CanObserve<FriMmcs::Commitment>,
 {
     type Entry = Val;
+
+    type Proof = StarkProof<Val, EF, InputMmcs, FriMmcs>;
 
     ghost schemes = { let p = ⟦<Self as Pcs<EF, C>>⟧ in record {
       Commitment = InputMmcs.Commitment;
@@ -80,9 +86,6 @@ where
 ///
 /// Each scheme has it, so no function requires it: a clause cites the members of the scheme's.
 pub trait StarkRelation<EF, C: ChallengerState>: StarkSchemes<EF, C> {
-    /// The proofs.
-    type Proof;
-
     /// Why the scheme refuses claimed values.
     type Error;
 
@@ -128,8 +131,6 @@ where
         + CanObserve<InputMmcs::Commitment>
         + CanObserve<FriMmcs::Commitment>,
 {
-    type Proof = StarkProof<Val, EF, InputMmcs, FriMmcs>;
-
     type Error = VerifierError<InputMmcs::Error, FriMmcs::Error>;
 
     ghost accepts = { λ pcs statement old new proof. Accepts Self.schemes pcs
