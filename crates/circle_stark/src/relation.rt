@@ -31,8 +31,8 @@ pub trait StarkSchemes<EF, C: ChallengerState> {
     /// The entries of a trace.
     type Entry;
 
-    /// The proofs. Stated here, since the kit can't quote an impl at types of its own whose
-    /// associated types leave some of its parameters out.
+    /// The proofs. They stand in this trait, not in [`StarkRelation`]: the prover can quote an impl
+    /// at concrete types only where its associated types name all of its parameters.
     type Proof;
 
     // The fields, the schemes of the batches and of the codewords, and what a challenger is to
