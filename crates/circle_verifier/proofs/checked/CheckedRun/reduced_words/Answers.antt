@@ -26,6 +26,16 @@ returns-in_err-powers-clause-refused g c =
     handed_on c.from_residual.result Memory (Refuses c.args.self.now.run)
     c.from_residual.ensures.1 tt
 
+pub returns-in_err-rows-clause-apart : goal.returns-in_err-rows-clause-apart
+returns-in_err-rows-clause-apart g c =
+    IfOk-from_err c.from_residual-in_err-rows.result _ c.from_residual-in_err-rows.ensures.0
+
+pub returns-in_err-rows-clause-refused : goal.returns-in_err-rows-clause-refused
+unfolding IsReason
+returns-in_err-rows-clause-refused g c =
+    handed_on c.from_residual-in_err-rows.result Memory (Refuses c.args.self.now.run)
+    c.from_residual-in_err-rows.ensures.1 tt
+
 pub returns-in_err-words-clause-apart : goal.returns-in_err-words-clause-apart
 returns-in_err-words-clause-apart g c =
     IfOk-from_err c.from_residual-in_err-words.result _ c.from_residual-in_err-words.ensures.0
@@ -64,19 +74,6 @@ reduced_word-requires-clause-within g c =
     ap (λ hs. slice_get hs i) (sym (c.as_slice-heights.ensures.value ∙ checked.claimed))
     ∙ slice_get-get_or heights i 0 c.loop-log_height-test.true in
     height-within (claimed checked.run checked.opened i h at)
-
-pub reduced_word-requires-clause-powers : goal.reduced_word-requires-clause-powers
-reduced_word-requires-clause-powers g c =
-    subst (ArePowers g.EF.Operations.ops c.args.self.now.run.alpha) (sym c.deref.ensures.value)
-    c.in_ok-powers.ensures.powers
-
-pub reduced_word-requires-clause-enough : goal.reduced_word-requires-clause-enough
-reduced_word-requires-clause-enough g c =
-    subst
-    (λ ps. All
-    (λ (m : MatrixClaim g.row.EF.Denot). All (λ p. length p.values < length ps) m.claims)
-    (all_matrices (run_of c.args.self.now.run).batches))
-    (sym c.deref.ensures.value) c.in_ok-powers.ensures.enough
 
 pub returns-in_err-word-clause-apart : goal.returns-in_err-word-clause-apart
 returns-in_err-word-clause-apart g c =
