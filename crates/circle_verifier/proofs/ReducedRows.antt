@@ -8,6 +8,8 @@ use Rattle.std.proofs.lemmas.List.{drop_more, take_all, take_more}
 use Rattle.std.proofs.lemmas.List.Elements.{All-cons, All-head, All-map, All-nil, All-tail}
 use Rattle.std.proofs.lemmas.List.Elements.{All-weaker}
 use Rattle.std.proofs.lemmas.List.Concat.{flat_map_single}
+use Rattle.std.proofs.lemmas.List.Folds.{flat_map-map}
+use Rattle.std.proofs.lemmas.Simd.{map-map}
 use Rattle.std.proofs.lemmas.Option.{slice_get-get_or}
 use Rattle.std.proofs.lemmas.Grind.{flat_map-append}
 use Rattle.circle_field.specs.Field.{FieldOps}
@@ -27,17 +29,6 @@ All-under : {S T : Type 0} (P : T → Type 0) (f : S → T) (xs : List S) → Al
 All-under P f xs all =
     λ i d lt. subst P (get_or-map f xs i d (f d) lt)
     (all i (f d) (omega (arith, lt, length-map xs f)))
-
-flat_map-map : {A B C : Type 0} (f : B → List C) (g : A → B) (xs : List A) →
-    flat_map f (map g xs) ≡ flat_map (λ x. f (g x)) xs
-flat_map-map f g [] = refl
-flat_map-map f g (x ∷ xs) = ap (λ ys. f (g x) ++ ys) (flat_map-map f g xs)
-
-map-map : {A B C : Type 0} (f : B → C) (g : A → B) (h : A → C) → ((x : A) → f (g x) ≡ h x) →
-    (xs : List A) → map f (map g xs) ≡ map h xs
-map-map f g h same [] = refl
-map-map f g h same (x ∷ xs) =
-    ap (λ y. y ∷ map f (map g xs)) (same x) ∙ ap (λ ys. h x ∷ ys) (map-map f g h same xs)
 
 -- all entries or none
 all_or_none : {A B : Type 0} (b : Bool) (f : A → B) (xs : List A) →
@@ -116,9 +107,14 @@ module _ {F E : Type 0} where
         All-cons
         (λ m. All (λ c. Fits (length entries) (c, (log_height blowup m.0, m.1))) m.0.claims)
         (m, (i, entries)) (placed entries (i + 1) ms)
-        (λ k c inside. (refl, λ j d lt. (there j d lt,
-        All-head IsLong (m, slice_index_or (slice_index_or entries j d) i [])
-        (zip ms (drop (i + 1) (slice_index_or entries j d))) (long j d lt) k c inside)))
+        (λ k c inside. (
+          refl,
+          λ j d lt. (
+            there j d lt,
+            All-head IsLong (m, slice_index_or (slice_index_or entries j d) i [])
+                (zip ms (drop (i + 1) (slice_index_or entries j d))) (long j d lt) k c inside,
+          ),
+        ))
         (fits-placed blowup (i + 1) ms (λ j d lt. (
           let has = all j d lt in omega (arith, has.0),
           All-tail IsLong (m, slice_index_or (slice_index_or entries j d) i [])
@@ -166,7 +162,7 @@ module _ {F E : Type 0} where
         let each : PointClaim E → Claimed F E = λ c. (c, (log_height blowup m.0, m.1)) in
         map-append (λ (c : Claimed F E). point_taken l c.0) (map each m.0.claims) (claims_placed ms)
         ∙ ap (λ cs. cs ++ map (λ c. point_taken l c.0) (claims_placed ms))
-        (map-map (λ (c : Claimed F E). point_taken l c.0) each (point_taken l) (λ c. refl) m.0.claims)
+        (map-map (λ (c : Claimed F E). point_taken l c.0) each m.0.claims)
         ∙ ap (λ cs. map (point_taken l) m.0.claims ++ cs) (taken-placed l ms)
 
     -- at a query: those of one height, matrix by matrix

@@ -113,7 +113,7 @@ impl<
     InputMmcs: Mmcs<Val>,
     FriMmcs: Mmcs<EF>,
 > CheckedRun<'_, Val, EF, InputMmcs, FriMmcs> {
-    // For each claimed point where the rows stand of which values are claimed there.
+    // For each claimed point where the rows of its matrix stand.
     fn claimed_rows(&self, alloc: Global) -> Result<Vec<ClaimedRows<'_, Val>>, AllocError>
         ensures { IfOk result (λ rows. map rows_at rows.items ≡ claimed_rows self.now.run) }
     {
@@ -143,14 +143,13 @@ impl<
             self.now.run.claimed_points.now }
         ensures none { IsNone result → IsApartFrom self.now.run word.now → ⊥ }
         ensures apart { OnSome result (IsApartFrom self.now.run word.now) }
-        ensures sums { OnSome result
-            (AddsAll self.now.run word.now sums.old sums.new) }
+        ensures sums { OnSome result (AddsAll self.now.run word.now sums.old sums.new) }
     {
         let mut offset = EF::ONE;
-        for (claim, at) in self.run.claimed_points.iter().zip(rows) {
-            if at.log_height == word.log_height {
+        for (claim, place) in self.run.claimed_points.iter().zip(rows) {
+            if place.log_height == word.log_height {
                 let (point, values) = *claim;
-                let (opened, matrix) = (at.opened, at.matrix);
+                let (opened, matrix) = (place.opened, place.matrix);
                 let rows = MatrixRows { opened, matrix };
                 let claim = Claim { point, values };
                 add_quotients(sums, offset, word.powers, word.points, &rows, &claim)?;

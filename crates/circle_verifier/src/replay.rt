@@ -177,7 +177,14 @@ impl<
             query: fri_proof.pow_witness,
         };
         let claimed_points = opening_claims(alloc, self.claims)?;
-        match verifier_run(alloc, challenger, shape, &claimed_points, &messages, &witnesses) {
+        match verifier_run(
+            alloc,
+            challenger,
+            shape,
+            &claimed_points,
+            &messages,
+            &witnesses,
+        ) {
             Ok(draws) => Ok(DrawnRun {
                 run: self,
                 claimed_points,

@@ -2,17 +2,15 @@ use Rattle.std.proofs.Common.{◌≡◌, ◌+◌, ◌<◌, ◌≤◌, ◌++◌, 
 use Rattle.std.proofs.Common.{le_trans, le_of_lt, take}
 use Rattle.std.specs.Prelude.{All, map, zip}
 use Rattle.std.proofs.lemmas.List.{take_all, length_push}
-use Rattle.std.proofs.lemmas.Slice.Zip.{zip_turn, zip_end}
 use Rattle.circle_domain.specs.Domain.{log_size}
 use Rattle.circle_commit.specs.Mmcs.{opened_rows}
 use Rattle.circle_relation.specs.RunOf.{opened_batch}
 use Rattle.circle_relation.specs.Statement.{all_matrices, log_max_height}
 use Rattle.circle_relation.specs.StatementOf.{batch_claim, batch_claims, matrix_claims}
-use Rattle.circle_relation.proofs.Pairs.{pair-sources}
 use Rattle.circle_verifier.specs.OfRun.{run_of}
 use Rattle.circle_verifier.specs.Rows.{placed, all_placed, rows_claimed, rows_at}
 use Rattle.circle_verifier.proofs.ReducedRows.{all_rows-more}
-use Rattle.circle_verifier.proofs.Rows.{batch-within, pairs-length, pair-at}
+use Rattle.circle_verifier.proofs.Rows.{batch-within, pairs-length, pair-at, turn-at, turns-end}
 use Rattle.circle_verifier.proofs.checked.CheckedRun.claimed_rows.Given as given
 use Rattle.circle_verifier.proofs.checked.CheckedRun.claimed_rows.Goals as goal
 use Rattle.circle_verifier.proofs.checked.CheckedRun.claimed_rows.Goals.{In-Some}
@@ -26,13 +24,9 @@ turn-here : (g : given.Over) (c : In-Some g) →
     × (c.in-Some.batch.now ≡ get_or claims i c.in-Some.batch.now)
     × (c.in-Some.opening.now ≡ get_or opened i c.in-Some.opening.now)
 turn-here g c =
-    let claims = c.args.self.now.run.claims.now in
-    let opened = c.args.self.now.run.proof.now.fri_proof.input_openings.input_openings.items in
-    let from = pair-sources c.into_iter-batch-iterator.ensures.into_iter_gives
-    c.zip-batch-items.ensures.first c.iter.ensures.rest c.zip-batch-items.ensures.second.0 in
-    let turn = zip_turn claims opened c.loop-batch.yielded _ _ c.next.new.self _ from.0 from.1
-    c.loop-batch.yielded_by _ c.in-Some.is c.next.ensures.steps in
-    (turn.0, turn.1, turn.2 c.in-Some.batch.now, turn.3 c.in-Some.opening.now)
+    turn-at c.loop-batch.yielded _ c.next.new.self c.into_iter-batch-iterator.ensures.into_iter_gives c.zip-batch-items.ensures.first
+    c.iter.ensures.rest c.zip-batch-items.ensures.second.0 c.loop-batch.yielded_by c.in-Some.is
+    c.next.ensures.steps
 
 pub push_rows-requires : goal.push_rows-requires
 push_rows-requires g c =
@@ -77,9 +71,8 @@ returns g c =
     let run = c.args.self.now.run in
     let claims = run.claims.now in
     let opened = run.proof.now.fri_proof.input_openings.input_openings.items in
-    let from = pair-sources c.into_iter-batch-iterator.ensures.into_iter_gives
-    c.zip-batch-items.ensures.first c.iter.ensures.rest c.zip-batch-items.ensures.second.0 in
-    let last = zip_end claims opened c.loop-batch.yielded _ _ c.next.new.self _ from.0 from.1
+    let last = turns-end c.loop-batch.yielded _ c.next.new.self c.into_iter-batch-iterator.ensures.into_iter_gives
+    c.zip-batch-items.ensures.first c.iter.ensures.rest c.zip-batch-items.ensures.second.0
     c.loop-batch.yielded_by c.in-None.is c.next.ensures.steps in
     c.loop-batch.invariant
     ∙ ap (λ ps. rows_claimed run.params.now.log_blowup (all_placed ps))
