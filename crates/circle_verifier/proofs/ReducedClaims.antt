@@ -20,7 +20,7 @@ use Rattle.circle_relation.specs.Taken.{point_taken}
 use Rattle.circle_relation.proofs.ReducedSums.{adds-both, adds-same, adds-claim, adds-none}
 use Rattle.circle_transcript.specs.Claims.{claim_of, claims_of}
 use Rattle.circle_transcript.specs.Draw.{Claim}
-use Rattle.circle_verifier.specs.OfRun.{fields_of, run_of}
+use Rattle.circle_verifier.specs.OfRun.{run_of}
 use Rattle.circle_verifier.specs.Rows.{Place, all_placed, rows_at}
 use Rattle.circle_verifier.specs.Sums.{claimed_rows, IsApartFrom, AddsAll}
 use Rattle.circle_verifier.specs.declared.checked.CheckedRun.{CheckedRun}

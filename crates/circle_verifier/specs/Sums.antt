@@ -1,10 +1,9 @@
 -- Sums of quotients at the queries, claim after claim.
-use Rattle.std.specs.Prelude.{◌≡◌, ℕ, ◌==◌, List, [], ◌∷◌, if◌then◌else◌, map, flat_map, zip}
-use Rattle.std.specs.Prelude.{slice_index_or}
+use Rattle.std.specs.Prelude.{ℕ, List, map, zip}
 use Rattle.circle_field.specs.Circle.{Coordinates, origin}
 use Rattle.circle_point.specs.Point.{coordinates}
-use Rattle.circle_folding.specs.Queries.{query_point, rows_of}
-use Rattle.circle_relation.specs.Statement.{PointClaim, all_matrices}
+use Rattle.circle_folding.specs.Queries.{query_point}
+use Rattle.circle_relation.specs.Statement.{all_matrices}
 use Rattle.circle_relation.specs.Sums.{AreApartAt, Adds, all_claims_at}
 use Rattle.circle_relation.specs.Accepts.{top, at_queries, point_among}
 use Rattle.circle_relation.specs.Accepts.{reduced_at, claims_of}

@@ -176,18 +176,11 @@ impl<
             rounds: Vec::from_slice(alloc, &fri_proof.commit_pow_witnesses)?,
             query: fri_proof.pow_witness,
         };
-        let claimed_points = opening_claims(alloc, self.claims)?;
-        match verifier_run(
-            alloc,
-            challenger,
-            shape,
-            &claimed_points,
-            &messages,
-            &witnesses,
-        ) {
+        let points = opening_claims(alloc, self.claims)?;
+        match verifier_run(alloc, challenger, shape, &points, &messages, &witnesses) {
             Ok(draws) => Ok(DrawnRun {
                 run: self,
-                claimed_points,
+                claimed_points: points,
                 draws,
             }),
             Err(failure) => Err(refusal_of(failure)),

@@ -1,9 +1,8 @@
-use Rattle.std.proofs.Common.{◌≡◌, ◌+◌, ◌<◌, ◌≤◌, ◌∙◌, length, map, refl, sym, ap, subst, arith}
+use Rattle.std.proofs.Common.{◌≡◌, ◌<◌, ◌≤◌, ◌∙◌, length, map, refl, sym, ap, subst, arith}
 use Rattle.std.proofs.Common.{slice_index_or}
 use Rattle.std.proofs.lemmas.List.{length-map, length_push}
 use Rattle.std.proofs.lemmas.List.FromFn.{get_or-map-range_with_len}
 use Rattle.circle_field.specs.Field.{nth_power}
-use Rattle.circle_relation.specs.Sums.{Adds}
 use Rattle.circle_verifier.proofs.ReducedClaims.{IsRead, read, counted, all_claims, IsSummed}
 use Rattle.circle_verifier.proofs.ReducedClaims.{summed-none, summed-more, summed-other}
 use Rattle.circle_verifier.proofs.ReducedClaims.{meets-read, apart-all, adds-all}

@@ -1,5 +1,5 @@
 use Rattle.std.proofs.Common.{◌≡◌, ◌+◌, ◌<◌, ◌≤◌, ◌++◌, ◌∙◌, get_or, length, sym, ap, subst, arith}
-use Rattle.std.proofs.Common.{le_trans, le_of_lt, take}
+use Rattle.std.proofs.Common.{take}
 use Rattle.std.specs.Prelude.{All, map, zip}
 use Rattle.std.proofs.lemmas.List.{take_all, length_push}
 use Rattle.circle_domain.specs.Domain.{log_size}
@@ -7,8 +7,7 @@ use Rattle.circle_commit.specs.Mmcs.{opened_rows}
 use Rattle.circle_relation.specs.RunOf.{opened_batch}
 use Rattle.circle_relation.specs.Statement.{all_matrices, log_max_height}
 use Rattle.circle_relation.specs.StatementOf.{batch_claim, batch_claims, matrix_claims}
-use Rattle.circle_verifier.specs.OfRun.{run_of}
-use Rattle.circle_verifier.specs.Rows.{placed, all_placed, rows_claimed, rows_at}
+use Rattle.circle_verifier.specs.Rows.{placed, all_placed, rows_claimed}
 use Rattle.circle_verifier.proofs.ReducedRows.{all_rows-more}
 use Rattle.circle_verifier.proofs.Rows.{batch-within, pairs-length, pair-at, turn-at, turns-end}
 use Rattle.circle_verifier.proofs.checked.CheckedRun.claimed_rows.Given as given

@@ -1,16 +1,14 @@
-use Rattle.std.proofs.Common.{◌≡◌, ◌<◌, [], ◌∷◌, ◌++◌, ◌∙◌, sym, ap, subst, map, take}
-use Rattle.std.proofs.Common.{All, arith, slice_index_or, length}
+use Rattle.std.proofs.Common.{◌≡◌, [], ◌∷◌, ◌++◌, ◌∙◌, sym, ap, subst, map, take}
+use Rattle.std.proofs.Common.{All, arith, slice_index_or}
 use Rattle.std.specs.Prelude.{slice_get, Some}
 use Rattle.std.proofs.lemmas.List.{map-append, map_more, take_all}
 use Rattle.std.proofs.lemmas.List.Elements.{All-more, All-nil}
 use Rattle.std.proofs.lemmas.Option.{slice_get-get_or}
 use Rattle.std.proofs.lemmas.Result.{IfOk-from_err}
 use Rattle.circle_commit.specs.declared.error.FriError.TheVariants.{Memory}
-use Rattle.circle_folding.specs.Quotient.{ArePowers}
 use Rattle.circle_relation.specs.Reasons.{IsReason}
 use Rattle.circle_relation.specs.RunOf.{queried}
 use Rattle.circle_verifier.specs.OfRun.{fields_of, run_of, heights_of, Refuses}
-use Rattle.circle_relation.specs.Statement.{MatrixClaim, all_matrices}
 use Rattle.circle_verifier.specs.Sums.{word_at, IsApartIn}
 use Rattle.circle_verifier.proofs.ReducedValues.{handed_on, apart-all}
 use Rattle.circle_verifier.proofs.FirstLayerRun.{claimed, height-within, height-large}
