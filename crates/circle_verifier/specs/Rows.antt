@@ -1,6 +1,5 @@
 -- Where the rows of claims stand among those that are opened.
-use Rattle.std.specs.Prelude.{ℕ, ◌+◌, List, [], ◌∷◌, flat_map, length}
-use Rattle.std.specs.Prelude.{replicate}
+use Rattle.std.specs.Prelude.{ℕ, ◌+◌, List, [], ◌∷◌, flat_map, length, replicate}
 use Rattle.circle_commit.specs.Mmcs.{opened_rows}
 use Rattle.circle_relation.specs.Statement.{MatrixClaim, BatchClaim, Opened, log_height}
 use Rattle.circle_verifier.specs.declared.reduced.ClaimedRows.{ClaimedRows}
@@ -26,5 +25,6 @@ module _ {F E : Type 0} where
   rows_claimed blowup matrices =
       flat_map (λ p. replicate (length p.0.claims) (log_height blowup p.0, p.1)) matrices
 
+-- what contracts see of the rows of a claim
 abbrev pub rows_at : {F : Type 0} → ClaimedRows F → ℕ × Place F
 rows_at r = (r.log_height, (r.matrix, opened_rows r.opened.now))
