@@ -41,8 +41,8 @@ All-unmap P f xs all =
     (all i (f d) (omega (arith, lt, length-map xs f)))
 
 -- of a height the queries' values and siblings in the first layer; the pairs of the heights
-module _ {F E I W IC ID IP IE WC WD WP WE : Type 0} {g over inputs ic ip ie words wc wp we : _}
-    (o : OpenedRun F E I W IC ID IP IE WC WD WP WE g over inputs ic ip ie words wc wp we) where
+module _ {F E I W IC ID IP IE WC WD WP WE : Type 0} {g ext over inputs ic ip ie words wc wp we : _}
+    (o : OpenedRun F E I W IC ID IP IE WC WD WP WE g ext over inputs ic ip ie words wc wp we) where
   abbrev at_each : {T : Type 0} → (ℕ → ℕ → T) → List T
   at_each f = at_queries over.fields o.params.now (run_of o) f
 
@@ -71,8 +71,8 @@ module _ {F E I W IC ID IP IE WC WD WP WE : Type 0} {g over inputs ic ip ie word
     pub opened : IsOpened o
     pub reduced : map queried listed ≡ reduced_words o
 
-module _ {F E I W IC ID IP IE WC WD WP WE : Type 0} {g over inputs ic ip ie words wc wp we : _}
-    {o : OpenedRun F E I W IC ID IP IE WC WD WP WE g over inputs ic ip ie words wc wp we}
+module _ {F E I W IC ID IP IE WC WD WP WE : Type 0} {g ext over inputs ic ip ie words wc wp we : _}
+    {o : OpenedRun F E I W IC ID IP IE WC WD WP WE g ext over inputs ic ip ie words wc wp we}
     {place h : ℕ} (w : IsClaimed o place h) where
   abbrev r : Run F E WC IC IP WP
   r = run_of o
@@ -241,8 +241,8 @@ module _ {F E I W IC ID IP IE WC WD WP WE : Type 0} {g over inputs ic ip ie word
         ap (drop n) parts ∙ later-parts over.fields.field.inv twiddles h rest n long,
       )
 
-module _ {F E I W IC ID IP IE WC WD WP WE : Type 0} {g over inputs ic ip ie words wc wp we : _}
-    {o : OpenedRun F E I W IC ID IP IE WC WD WP WE g over inputs ic ip ie words wc wp we}
+module _ {F E I W IC ID IP IE WC WD WP WE : Type 0} {g ext over inputs ic ip ie words wc wp we : _}
+    {o : OpenedRun F E I W IC ID IP IE WC WD WP WE g ext over inputs ic ip ie words wc wp we}
     {f : _} {listed : List (QueriedWord F E f)} (a : AreReduced o listed) where
   -- the codeword at a place is that of a height that is claimed
   pub word-of : (n : ℕ) (word : QueriedWord F E f) → n < length listed →
@@ -291,8 +291,8 @@ module _ {F E I W IC ID IP IE WC WD WP WE : Type 0} {g over inputs ic ip ie word
       ∙ take_all n (folded_words o)
       (omega (arith, all-heights n all, length-map (heights_of o) (folded_word o)))
 
-module _ {F E I W IC ID IP IE WC WD WP WE : Type 0} {g over inputs ic ip ie words wc wp we : _}
-    {o : OpenedRun F E I W IC ID IP IE WC WD WP WE g over inputs ic ip ie words wc wp we}
+module _ {F E I W IC ID IP IE WC WD WP WE : Type 0} {g ext over inputs ic ip ie words wc wp we : _}
+    {o : OpenedRun F E I W IC ID IP IE WC WD WP WE g ext over inputs ic ip ie words wc wp we}
     (opened : IsOpened o)
   where
     -- the heights that are claimed are those of codewords that fold by pairs

@@ -22,8 +22,8 @@ flat_map-map : {A B C : Type 0} (f : B → List C) (h : A → B) (xs : List A) �
 flat_map-map f h [] = refl
 flat_map-map f h (x ∷ xs) = ap (λ rest. f (h x) ++ rest) (flat_map-map f h xs)
 
-module _ {F E I W IC ID IP IE WC WD WP WE : Type 0} {g over inputs ic ip ie words wc wp we : _}
-    {o : OpenedRun F E I W IC ID IP IE WC WD WP WE g over inputs ic ip ie words wc wp we}
+module _ {F E I W IC ID IP IE WC WD WP WE : Type 0} {g ext over inputs ic ip ie words wc wp we : _}
+    {o : OpenedRun F E I W IC ID IP IE WC WD WP WE g ext over inputs ic ip ie words wc wp we}
     {f : _} {listed : List (QueriedWord F E f)} (a : AreReduced o listed) where
   abbrev k : Fields F E
   k = over.fields

@@ -75,8 +75,8 @@ module _ {F E M C IC IP WP : Type 0} (fields : Fields F E) (params : FriParamete
       here ∙ ap (λ xs. slice_index_or xs j v) (all ∙ zip-placed f 0 qs)
       ∙ placed-read f 0 qs j v 0 lt ∙ ap (λ i. f i (slice_index_or qs j 0)) none
 
-module _ {F E I W IC ID IP IE WC WD WP WE : Type 0} {g over inputs ic ip ie words wc wp we : _}
-    (o : OpenedRun F E I W IC ID IP IE WC WD WP WE g over inputs ic ip ie words wc wp we) where
+module _ {F E I W IC ID IP IE WC WD WP WE : Type 0} {g ext over inputs ic ip ie words wc wp we : _}
+    (o : OpenedRun F E I W IC ID IP IE WC WD WP WE g ext over inputs ic ip ie words wc wp we) where
   abbrev k : Fields F E
   k = over.fields
 

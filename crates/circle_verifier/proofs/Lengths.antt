@@ -166,8 +166,8 @@ shape-decides fields params r a b d t rows siblings lambdas is =
     (λ h. ((h.inputs, h.rows), (h.first_siblings, h.lambdas))))
 
 -- what a run is tested for
-module _ {F E I W IC ID IP IE WC WD WP WE : Type 0} {g over inputs ic ip ie words wc wp we : _}
-    (o : OpenedRun F E I W IC ID IP IE WC WD WP WE g over inputs ic ip ie words wc wp we)
+module _ {F E I W IC ID IP IE WC WD WP WE : Type 0} {g ext over inputs ic ip ie words wc wp we : _}
+    (o : OpenedRun F E I W IC ID IP IE WC WD WP WE g ext over inputs ic ip ie words wc wp we)
     (count : ℕ) where
   abbrev k : Fields F E
   k = over.fields

@@ -1,4 +1,3 @@
-pub mod CheckedRows
 pub mod Claimed
 pub mod Domains
 pub mod Finite
@@ -12,8 +11,8 @@ pub mod Known
 pub mod LastWord
 pub mod Lengths
 pub mod Points
+pub mod ReducedClaims
 pub mod ReducedRows
-pub mod ReducedWidths
 pub mod ReducedValues
 pub mod Replayed
 pub mod RoundsOpened

@@ -37,7 +37,7 @@ below-greatest (n ∷ ns) (suc i) d lt =
     let more = le-max_right n (greatest ns) in
     omega (arith, rest, more)
 
-pub below-top : {E : Type 0} (blowup : ℕ) (ms : List (MatrixClaim E)) →
+below-top : {E : Type 0} (blowup : ℕ) (ms : List (MatrixClaim E)) →
     All (λ m. log_height blowup m ≤ log_max_height blowup ms) ms
 below-top blowup ms = λ i d lt.
     subst (λ n. n ≤ log_max_height blowup ms) (get_or-map (log_height blowup) ms i d 0 lt)

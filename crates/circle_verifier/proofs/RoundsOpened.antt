@@ -26,8 +26,8 @@ shifted-one e lt =
     let below : 1 * 2 ^ e < 2 ^ 64 = omega (arith, room, pow-suc 2 e) in
     mod-eq_of_lt below ∙ (let same : 1 * 2 ^ e ≡ 2 ^ e = omega arith in same)
 
-module _ {F E I W IC ID IP IE WC WD WP WE : Type 0} {g over inputs ic ip ie words wc wp we : _}
-    (o : OpenedRun F E I W IC ID IP IE WC WD WP WE g over inputs ic ip ie words wc wp we) where
+module _ {F E I W IC ID IP IE WC WD WP WE : Type 0} {g ext over inputs ic ip ie words wc wp we : _}
+    (o : OpenedRun F E I W IC ID IP IE WC WD WP WE g ext over inputs ic ip ie words wc wp we) where
   abbrev k : Fields F E
   k = over.fields
 

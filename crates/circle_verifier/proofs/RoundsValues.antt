@@ -68,8 +68,8 @@ top-claimed blowup (m ∷ ms) some =
     (eq-eqb (height (slice_index_or all there.0 m)) (greatest (map height all))
     (sym (get_or-map height all there.0 m 0 within) ∙ there.2))
 
-module _ {F E I W IC ID IP IE WC WD WP WE : Type 0} {g over inputs ic ip ie words wc wp we : _}
-    (o : OpenedRun F E I W IC ID IP IE WC WD WP WE g over inputs ic ip ie words wc wp we) where
+module _ {F E I W IC ID IP IE WC WD WP WE : Type 0} {g ext over inputs ic ip ie words wc wp we : _}
+    (o : OpenedRun F E I W IC ID IP IE WC WD WP WE g ext over inputs ic ip ie words wc wp we) where
   abbrev k : Fields F E
   k = over.fields
 

@@ -3,10 +3,19 @@ use Rattle.std.proofs.Common.{◌≡◌, ℕ, ◌+◌, ◌<◌, ◌≤◌, Bool,
 use Rattle.std.proofs.Common.{get_or, take, map, refl, sym, ap, subst, ◌∙◌, arith}
 use Rattle.std.specs.Prelude.{All, Result, Ok, Err, IfErr, IsErrAnd, min, zip, if◌then◌else◌}
 use Rattle.std.proofs.lemmas.List.Elements.{All-nil, All-cons, All-head, All-tail, All-more}
-use Rattle.std.proofs.lemmas.Slice.Zip.{length-zip, get_or-zip}
+use Rattle.std.proofs.lemmas.Slice.Zip.{length-zip, get_or-zip, zip_turn, zip_end}
 use Rattle.std.proofs.lemmas.List.{length-map, get_or-map}
 use Rattle.std.proofs.lemmas.Option.{slice_get-map, slice_get_read}
 use Rattle.std.specs.Option.{option_map}
+use Rattle.std.specs.Prelude.{Option, Some, None}
+use Rattle.std.specs.Borrow.{Bor}
+use Rattle.std.specs.Iterator.{Yields}
+use Rattle.std.specs.Iterator.Adapters.{zip_first, zip_second}
+use Rattle.std.specs.Slice.Iter.{iter_rest}
+use Rattle.std.proofs.lemmas.Fn.{fronts}
+use Rattle.std.proofs.lemmas.Iterator.{zips}
+use Rattle.std.proofs.Common.{Iter}
+use Rattle.circle_relation.proofs.Pairs.{pair-sources}
 use Rattle.circle_commit.specs.declared.params.FriParameters.{FriParameters}
 use Rattle.circle_commit.specs.declared.error.FriError.{FriError}
 use Rattle.circle_commit.specs.declared.error.FriError.TheVariants.{InputError as OfInput, Memory}
@@ -115,3 +124,21 @@ module _ {X Y A B : Type 0} (f : X → A) (h : Y → B) (xs : List X) (ys : List
         subst (λ m. All P (take m pairs)) (sym next)
         (All-more P pairs i (f x, h y) (omega (arith, pairs-length)) before
         (subst P (sym (pair-at i x y first second is is')) here))
+
+-- a loop over the pairs of two lists: where a turn's pair is, and how many turns there were
+module _ {A B : Type 0} (xs : List (Bor A × Bor B)) (t u : _) {s z : _} {i : Iter A} {ks : List A}
+    {vs : List B} {r : Option (Bor A × Bor B)} (same : s ≡ z) (of_first : zip_first z ≡ i)
+    (first : iter_rest i ≡ ks) (second : iter_rest (zip_second z) ≡ vs)
+    (yielded : Yields (zips fronts fronts) s xs t) where
+  pub turn-at : {p : Bor A × Bor B} → r ≡ Some p → zips fronts fronts t r u →
+      (length xs < length ks) × (length xs < length vs)
+      × (p.0.now ≡ get_or ks (length xs) p.0.now) × (p.1.now ≡ get_or vs (length xs) p.1.now)
+  turn-at {p} is step =
+      let from = pair-sources same of_first first second in
+      let turn = zip_turn ks vs xs s t u r from.0 from.1 yielded p is step in
+      (turn.0, turn.1, turn.2 p.0.now, turn.3 p.1.now)
+
+  pub turns-end : r ≡ None → zips fronts fronts t r u → length xs ≡ min (length ks) (length vs)
+  turns-end is step =
+      let from = pair-sources same of_first first second in
+      zip_end ks vs xs s t u r from.0 from.1 yielded is step

@@ -170,8 +170,8 @@ challenges-told {S = S} {F = F} f told c d s t same =
 
 -- what holds of a run, in terms of its parts
 module _ {F E I W IC ID IP IE WC WD WP WE : Type 0} {g : Ghosts F}
-    {over inputs ic ip ie words wc wp we : _}
-    (o : OpenedRun F E I W IC ID IP IE WC WD WP WE g over inputs ic ip ie words wc wp we)
+    {ext over inputs ic ip ie words wc wp we : _}
+    (o : OpenedRun F E I W IC ID IP IE WC WD WP WE g ext over inputs ic ip ie words wc wp we)
     (mmcs : I) (p : FriParameters W) (r : Run F E WC IC IP WP) (same : o.mmcs.now ≡ mmcs)
     (params : o.params.now ≡ p) (run : run_of o ≡ r) where
   moved : (P : I → FriParameters W → Run F E WC IC IP WP → Type 0) →

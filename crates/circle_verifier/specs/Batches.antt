@@ -24,8 +24,8 @@ abbrev pub claimed_shape : {E : Type 0} → ℕ → MatrixClaim E → Dimensions
 claimed_shape blowup m = record { width = claimed_width m; height = 2 ^ log_height blowup m }
 
 -- the rows that are opened of a batch authenticate at a run's queries
-module _ {F E I W IC ID IP IE WC WD WP WE : Type 0} {g over inputs ic ip ie words wc wp we : _}
-    (o : OpenedRun F E I W IC ID IP IE WC WD WP WE g over inputs ic ip ie words wc wp we) where
+module _ {F E I W IC ID IP IE WC WD WP WE : Type 0} {g ext over inputs ic ip ie words wc wp we : _}
+    (o : OpenedRun F E I W IC ID IP IE WC WD WP WE g ext over inputs ic ip ie words wc wp we) where
   abbrev pub AreShown :
       CommitmentOpening E IC (CircleDomain F g) → BatchMultiOpening F I IC ID IP IE → Type 0
   AreShown batch opening =

@@ -8,8 +8,8 @@ use Rattle.circle_verifier.specs.declared.run.OpenedRun.{OpenedRun}
 use Rattle.circle_relation.specs.Accepts.{at_queries, first_pair, folded}
 use Rattle.circle_verifier.specs.OfRun.{fields_of, run_of}
 
-module _ {F E I W IC ID IP IE WC WD WP WE : Type 0} {g over inputs ic ip ie words wc wp we : _}
-    (o : OpenedRun F E I W IC ID IP IE WC WD WP WE g over inputs ic ip ie words wc wp we)
+module _ {F E I W IC ID IP IE WC WD WP WE : Type 0} {g ext over inputs ic ip ie words wc wp we : _}
+    (o : OpenedRun F E I W IC ID IP IE WC WD WP WE g ext over inputs ic ip ie words wc wp we)
     (h : ℕ) where
   abbrev pub twiddles_of : List F
   twiddles_of =

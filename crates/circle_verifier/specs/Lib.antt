@@ -6,6 +6,7 @@ pub mod OfRun
 pub mod OfTested
 pub mod Refusals
 pub mod Rounds
+pub mod Rows
 pub mod Shape
 pub mod Sums
 pub mod Tested

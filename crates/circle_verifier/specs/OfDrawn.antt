@@ -10,8 +10,8 @@ use Rattle.circle_verifier.specs.declared.drawn.DrawnRun.{DrawnRun}
 -- I and W are the schemes of the batches and of the codewords, each with its commitments, data,
 -- proofs and errors; what is known of the fields is in `over`, what is of the schemes in `inputs`
 -- and `words`
-module _ {F E I W IC ID IP IE WC WD WP WE : Type 0} {g over inputs ic ip ie words wc wp we : _}
-    (d : DrawnRun F E I W IC ID IP IE WC WD WP WE g over inputs ic ip ie words wc wp we) where
+module _ {F E I W IC ID IP IE WC WD WP WE : Type 0} {g ext over inputs ic ip ie words wc wp we : _}
+    (d : DrawnRun F E I W IC ID IP IE WC WD WP WE g ext over inputs ic ip ie words wc wp we) where
   abbrev pub fields_of : Fields F E
   fields_of = over.fields
 

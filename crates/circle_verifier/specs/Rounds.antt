@@ -21,8 +21,8 @@ module _ {F : Type 0} (k : FieldOps F) (gen : ℕ → Coordinates F) (h : ℕ) (
   abbrev pub inverses_from : ℕ → ℕ → List F
   inverses_from n count = map k.inv (twiddles_from n count)
 
-module _ {F E I W IC ID IP IE WC WD WP WE : Type 0} {g over inputs ic ip ie words wc wp we : _}
-    (o : OpenedRun F E I W IC ID IP IE WC WD WP WE g over inputs ic ip ie words wc wp we) where
+module _ {F E I W IC ID IP IE WC WD WP WE : Type 0} {g ext over inputs ic ip ie words wc wp we : _}
+    (o : OpenedRun F E I W IC ID IP IE WC WD WP WE g ext over inputs ic ip ie words wc wp we) where
   -- the queries' values in the codeword of a round, their siblings there, and the folds of their
   -- pairs
   abbrev pub values_in : ℕ → List E

@@ -13,7 +13,7 @@ use circle_relation::OverCircle;
 pub struct CheckedRun<
     'a,
     Val: Operations,
-    EF: OverCircle<Val>,
+    EF: Operations + OverCircle<Val>,
     InputMmcs: Mmcs<Val>,
     FriMmcs: Mmcs<EF>,
 > {

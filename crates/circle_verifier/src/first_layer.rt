@@ -29,7 +29,7 @@ use std::alloc::{AllocError, Global};
 pub struct FirstLayer<
     'a,
     Val: Operations,
-    EF: OverCircle<Val>,
+    EF: Operations + OverCircle<Val>,
     InputMmcs: Mmcs<Val>,
     FriMmcs: Mmcs<EF>,
 > {

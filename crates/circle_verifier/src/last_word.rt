@@ -15,7 +15,7 @@ use circle_relation::{OverCircle, VerifierError};
 pub struct LastValues<
     'a,
     Val: Operations,
-    EF: OverCircle<Val>,
+    EF: Operations + OverCircle<Val>,
     InputMmcs: Mmcs<Val>,
     FriMmcs: Mmcs<EF>,
 > {

@@ -77,6 +77,7 @@ impl<
             mmcs,
             params: self.run.params,
             claims: self.run.claims,
+            claimed_points: &self.claimed_points,
             proof: self.run.proof,
             log_max_height: self.run.log_max_height,
             alpha: self.draws.alpha,

@@ -102,8 +102,8 @@ fn push_batch<'a, F: ComplexExtendable, EF: Field>(
     Ok(())
 }
 
-// The claims as the transcript absorbs them, one after another. Requires points that are not at
-// infinity.
+// The claims as the transcript absorbs them and the quotients take them, one after another. Requires
+// points that are not at infinity.
 fn opening_claims<'a, F: ComplexExtendable, EF: Field, Com>(
     alloc: Global,
     batches: &'a [CommitmentOpening<EF, Com, CircleDomain<F>>],
@@ -176,9 +176,13 @@ impl<
             rounds: Vec::from_slice(alloc, &fri_proof.commit_pow_witnesses)?,
             query: fri_proof.pow_witness,
         };
-        let claimed = opening_claims(alloc, self.claims)?;
-        match verifier_run(alloc, challenger, shape, &claimed, &messages, &witnesses) {
-            Ok(draws) => Ok(DrawnRun { run: self, draws }),
+        let points = opening_claims(alloc, self.claims)?;
+        match verifier_run(alloc, challenger, shape, &points, &messages, &witnesses) {
+            Ok(draws) => Ok(DrawnRun {
+                run: self,
+                claimed_points: points,
+                draws,
+            }),
             Err(failure) => Err(refusal_of(failure)),
         }
     }

@@ -97,25 +97,19 @@ returns-in_err-values-clause-refused g c =
     (Refuses c.args.self.now.run) c.from_residual-in_err-values.ensures.1
     tt
 
-pub add_batches-requires-clause-points : goal.add_batches-requires-clause-points
-add_batches-requires-clause-points g c =
+pub add_claims-requires-clause-points : goal.add_claims-requires-clause-points
+add_claims-requires-clause-points g c =
     let run = c.args.self.now.run in
     let k = fields_of run in
-    let at = (goal.at.add_batches-requires-clause-points g c).After-deref_mut in
+    let at = (goal.at.add_claims-requires-clause-points g c).After-deref_mut in
     sym (length-map c.deref.result.now coordinates) ∙ ap length (listed g at)
     ∙ length-map run.indices.now
     (query_point k.field k.gen c.args.log_height (top k run.params.now (run_of run)))
     ∙ sym (counted g at)
 
-pub add_batches-requires-clause-queries : goal.add_batches-requires-clause-queries
-add_batches-requires-clause-queries g c =
-    sym (counted g (goal.at.add_batches-requires-clause-queries g c).After-deref_mut)
-
-pub add_batches-requires-clause-blowup : goal.add_batches-requires-clause-blowup
-add_batches-requires-clause-blowup g c = refl
-
-pub add_batches-requires-clause-enough : goal.add_batches-requires-clause-enough
-add_batches-requires-clause-enough g c = c.requires.enough
+pub add_claims-requires-clause-queries : goal.add_claims-requires-clause-queries
+add_claims-requires-clause-queries g c =
+    sym (counted g (goal.at.add_claims-requires-clause-queries g c).After-deref_mut)
 
 pub returns-in-Some-clause-word : goal.returns-in-Some-clause-word
 returns-in-Some-clause-word g c =
@@ -127,12 +121,12 @@ returns-in-Some-clause-word g c =
     let queries = run.indices.now in
     let l = k.extension in
     let old = c.deref_mut.result.now in
-    let new = c.add_batches.new.sums in
+    let new = c.add_claims.new.sums in
     let points = map coordinates c.deref.result.now in
     let none = origin g.Val.Operations.ops in
     let claims =
     all_claims_at run.params.now.log_blowup h (zip r.batches r.proof.inputs) in
-    let added = c.in-Some.ensures.sums run.alpha c.requires.powers in
+    let added = c.in-Some.ensures.sums in
     let adds : Adds l k.embed run.alpha points none claims l.one added.0 old new = added.1 in
     let long : length old ≡ length queries = counted g at in
     let zero : (j : ℕ) → j < length queries → slice_index_or old j l.zero ≡ l.zero =

@@ -1,16 +1,14 @@
-use Rattle.std.proofs.Common.{◌≡◌, ◌<◌, [], ◌∷◌, ◌++◌, ◌∙◌, sym, ap, subst, map, take}
-use Rattle.std.proofs.Common.{All, arith, slice_index_or, length}
+use Rattle.std.proofs.Common.{◌≡◌, [], ◌∷◌, ◌++◌, ◌∙◌, sym, ap, subst, map, take}
+use Rattle.std.proofs.Common.{All, arith, slice_index_or}
 use Rattle.std.specs.Prelude.{slice_get, Some}
 use Rattle.std.proofs.lemmas.List.{map-append, map_more, take_all}
 use Rattle.std.proofs.lemmas.List.Elements.{All-more, All-nil}
 use Rattle.std.proofs.lemmas.Option.{slice_get-get_or}
 use Rattle.std.proofs.lemmas.Result.{IfOk-from_err}
 use Rattle.circle_commit.specs.declared.error.FriError.TheVariants.{Memory}
-use Rattle.circle_folding.specs.Quotient.{ArePowers}
 use Rattle.circle_relation.specs.Reasons.{IsReason}
 use Rattle.circle_relation.specs.RunOf.{queried}
 use Rattle.circle_verifier.specs.OfRun.{fields_of, run_of, heights_of, Refuses}
-use Rattle.circle_relation.specs.Statement.{MatrixClaim, all_matrices}
 use Rattle.circle_verifier.specs.Sums.{word_at, IsApartIn}
 use Rattle.circle_verifier.proofs.ReducedValues.{handed_on, apart-all}
 use Rattle.circle_verifier.proofs.FirstLayerRun.{claimed, height-within, height-large}
@@ -25,6 +23,16 @@ unfolding IsReason
 returns-in_err-powers-clause-refused g c =
     handed_on c.from_residual.result Memory (Refuses c.args.self.now.run)
     c.from_residual.ensures.1 tt
+
+pub returns-in_err-rows-clause-apart : goal.returns-in_err-rows-clause-apart
+returns-in_err-rows-clause-apart g c =
+    IfOk-from_err c.from_residual-in_err-rows.result _ c.from_residual-in_err-rows.ensures.0
+
+pub returns-in_err-rows-clause-refused : goal.returns-in_err-rows-clause-refused
+unfolding IsReason
+returns-in_err-rows-clause-refused g c =
+    handed_on c.from_residual-in_err-rows.result Memory (Refuses c.args.self.now.run)
+    c.from_residual-in_err-rows.ensures.1 tt
 
 pub returns-in_err-words-clause-apart : goal.returns-in_err-words-clause-apart
 returns-in_err-words-clause-apart g c =
@@ -64,19 +72,6 @@ reduced_word-requires-clause-within g c =
     ap (λ hs. slice_get hs i) (sym (c.as_slice-heights.ensures.value ∙ checked.claimed))
     ∙ slice_get-get_or heights i 0 c.loop-log_height-test.true in
     height-within (claimed checked.run checked.opened i h at)
-
-pub reduced_word-requires-clause-powers : goal.reduced_word-requires-clause-powers
-reduced_word-requires-clause-powers g c =
-    subst (ArePowers g.EF.Operations.ops c.args.self.now.run.alpha) (sym c.deref.ensures.value)
-    c.in_ok-powers.ensures.powers
-
-pub reduced_word-requires-clause-enough : goal.reduced_word-requires-clause-enough
-reduced_word-requires-clause-enough g c =
-    subst
-    (λ ps. All
-    (λ (m : MatrixClaim g.row.EF.Denot). All (λ p. length p.values < length ps) m.claims)
-    (all_matrices (run_of c.args.self.now.run).batches))
-    (sym c.deref.ensures.value) c.in_ok-powers.ensures.enough
 
 pub returns-in_err-word-clause-apart : goal.returns-in_err-word-clause-apart
 returns-in_err-word-clause-apart g c =

@@ -3,15 +3,13 @@ use Rattle.std.proofs.Common.{le_trans, le_of_lt}
 use Rattle.std.specs.Prelude.{All, map, zip}
 use Rattle.std.proofs.lemmas.Result.{IfOk-from_err}
 use Rattle.std.proofs.lemmas.List.{take_all, length_push}
-use Rattle.std.proofs.lemmas.Slice.Zip.{zip_turn, zip_end}
 use Rattle.circle_relation.specs.Accepts.{InputAuthenticates}
 use Rattle.circle_relation.specs.RunOf.{opened_batch}
 use Rattle.circle_verifier.specs.OfRun.{fields_of, run_of, Refuses}
 use Rattle.circle_relation.specs.Statement.{all_matrices, log_max_height}
 use Rattle.circle_relation.specs.StatementOf.{batch_claim, batch_claims}
-use Rattle.circle_relation.proofs.Pairs.{pair-sources}
 use Rattle.circle_verifier.proofs.Rows.{batch-within, rows-reason, handed-on, pairs-length}
-use Rattle.circle_verifier.proofs.Rows.{pair-of-all, pair-more}
+use Rattle.circle_verifier.proofs.Rows.{pair-of-all, pair-more, turn-at, turns-end}
 use Rattle.circle_verifier.proofs.run.OpenedRun.authenticate_inputs.Given as given
 use Rattle.circle_verifier.proofs.run.OpenedRun.authenticate_inputs.Goals as goal
 use Rattle.circle_verifier.proofs.run.OpenedRun.authenticate_inputs.Goals.{In-Some}
@@ -25,13 +23,9 @@ turn-here : (g : given.Over) (c : In-Some g) →
     × (c.in-Some.batch.now ≡ get_or claims i c.in-Some.batch.now)
     × (c.in-Some.opening.now ≡ get_or opened i c.in-Some.opening.now)
 turn-here g c =
-    let claims = c.args.self.now.claims.now in
-    let opened = c.args.self.now.proof.now.fri_proof.input_openings.input_openings.items in
-    let from = pair-sources c.into_iter-batch-iterator.ensures.into_iter_gives
-    c.zip-batch-items.ensures.first c.iter.ensures.rest c.zip-batch-items.ensures.second.0 in
-    let turn = zip_turn claims opened c.loop-batch.yielded _ _ c.next.new.self _ from.0 from.1
-    c.loop-batch.yielded_by _ c.in-Some.is c.next.ensures.steps in
-    (turn.0, turn.1, turn.2 c.in-Some.batch.now, turn.3 c.in-Some.opening.now)
+    turn-at c.loop-batch.yielded _ c.next.new.self c.into_iter-batch-iterator.ensures.into_iter_gives c.zip-batch-items.ensures.first
+    c.iter.ensures.rest c.zip-batch-items.ensures.second.0 c.loop-batch.yielded_by c.in-Some.is
+    c.next.ensures.steps
 
 pub authenticate_batch-requires-clause-heights : goal.authenticate_batch-requires-clause-heights
 authenticate_batch-requires-clause-heights g c =
@@ -99,9 +93,8 @@ returns-clause-shown g c =
     let k = fields_of run in
     let claims = run.claims.now in
     let opened = run.proof.now.fri_proof.input_openings.input_openings.items in
-    let from = pair-sources c.into_iter-batch-iterator.ensures.into_iter_gives
-    c.zip-batch-items.ensures.first c.iter.ensures.rest c.zip-batch-items.ensures.second.0 in
-    let last = zip_end claims opened c.loop-batch.yielded _ _ c.next.new.self _ from.0 from.1
+    let last = turns-end c.loop-batch.yielded _ c.next.new.self c.into_iter-batch-iterator.ensures.into_iter_gives
+    c.zip-batch-items.ensures.first c.iter.ensures.rest c.zip-batch-items.ensures.second.0
     c.loop-batch.yielded_by c.in-None.is c.next.ensures.steps in
     let pairs = zip (batch_claims claims) (map opened_batch opened) in
     subst

@@ -52,7 +52,7 @@ pub verifier_run-requires-clause-claims : goal.verifier_run-requires-clause-clai
 verifier_run-requires-clause-claims g c =
     let batches = batch_claims c.args.self.claims.now in
     ap (λ cs. widths_of (claims_of cs)) c.deref-4.ensures.value
-    ∙ ap (λ cs. widths_of cs) c.in_ok-claimed.ensures
+    ∙ ap (λ cs. widths_of cs) c.in_ok-points.ensures
     ∙ claims_widths g.EF.Operations.ops batches
     ∙ sym
     (ap (λ ws. flat_map (λ m. m) (flat_map (λ b. b) ws))
@@ -97,7 +97,7 @@ drawn-is : (g : Over) (c : In-Ok g) →
 drawn-is g c shape =
     redrawn _ _ _ _ _ _ _ shape
     (taken_is _ _ _ _ _ _ _ _ _ _ _
-    (ap claims_of c.deref-4.ensures.value ∙ c.in_ok-claimed.ensures) c.deref.ensures.value
+    (ap claims_of c.deref-4.ensures.value ∙ c.in_ok-points.ensures) c.deref.ensures.value
     (c.in_ok-from_slice.ensures.items ∙ c.deref-3.ensures.value) c.deref-2.ensures.value)
     c.in-Ok.ensures.draws
 
@@ -117,6 +117,7 @@ invariant_of-result g c =
     let is = ap (λ s. s.index_bits) c.new-shape.ensures in
     omega (arith, is, c.extra_query_index_bits-extra_bits.ensures, high) in
     record {
+      listed = c.in_ok-points.ensures;
       betas =
           betas-drawn (run g) p g.EF.Operations.ops batches (proof_of t.proof.now) _ _
           (challenges_of c.in-Ok.draws) drawn t.tested.commitments t.tested.witnesses;
@@ -132,6 +133,6 @@ returns-clause-failure g c =
     refused_by _ _ _ c.in-Err.failure c.refusal_of.result
     (redrawn _ _ _ _ _ _ _ (described g (goal.at.returns-clause-failure g c).After-new-shape)
     (taken_is _ _ _ _ _ _ _ _ _ _ _
-    (ap claims_of c.deref-4.ensures.value ∙ c.in_ok-claimed.ensures) c.deref.ensures.value
+    (ap claims_of c.deref-4.ensures.value ∙ c.in_ok-points.ensures) c.deref.ensures.value
     (c.in_ok-from_slice.ensures.items ∙ c.deref-3.ensures.value) c.deref-2.ensures.value) refl)
     c.refusal_of.ensures c.in-Err.ensures.failure
