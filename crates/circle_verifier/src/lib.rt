@@ -9,20 +9,20 @@
 //!   tests, which `specs/Refusals` lists in order: `validate_claims`, `validate_parameters`,
 //!   `validate_proof_shape` and `validate_points` (`batch_tests`, `parameter_tests`, `proof_tests`,
 //!   `point_tests`).
-//! - `TestedRun::replay_transcript` draws what the transcript of the claims and the proof draws from
-//!   a challenger (`drawn`), or returns the refusal of the first witness that doesn't pass
-//!   (`failure`). It makes a `DrawnRun`: the claimed points with the values there, in one list, which
-//!   the transcript absorbs (`listed`); a challenge for each round (`betas`); and as many queries as
-//!   the parameters say (`count`), each below the greatest height (`below`).
+//! - `TestedRun::replay_transcript` draws what the transcript of the claims and the proof draws
+//!   from a challenger (`drawn`), or returns the refusal of the first witness that doesn't pass
+//!   (`failure`). It makes a `DrawnRun`: the claimed points with the values there, in one list,
+//!   which the transcript absorbs (`listed`); a challenge for each round (`betas`); and as many
+//!   queries as the parameters say (`count`), each below the greatest height (`below`).
 //! - `DrawnRun::opened` makes the run of the relation, where batches are committed to by a scheme.
 //!   `DrawnRun::verify` is Ok only where the relation accepts it (`accepted`).
 //!
 //! Once the challenges are drawn, by the relation of `circle_relation`:
 //!
 //! - `OpenedRun` has what was tested before the challenges were drawn, and what is known of them
-//!   (`drawn`), with the list of claimed points (`listed`). `claimed_heights` returns the heights that matrices are claimed of, ascending.
-//!   `authenticate_inputs` is Ok only where the rows of each batch authenticate at the queries
-//!   (`shown`).
+//!   (`drawn`), with the list of claimed points (`listed`). `claimed_heights` returns the heights
+//!   that matrices are claimed of, ascending. `authenticate_inputs` is Ok only where the rows of
+//!   each batch authenticate at the queries (`shown`).
 //! - `OpenedRun::checked` makes a `CheckedRun`: the proof's lists have the lengths that the claims
 //!   and the queries fix, each matrix is claimed at a point, and each leaves something to fold
 //!   (`opened`). It has the heights (`claimed`).
@@ -44,14 +44,15 @@
 //! Its files:
 //!
 //! - In `specs/`, `Refusals`: the tests before the seeding, in order; `Tests`: these over the
-//!   records; `Tested`: what they establish. `OfTested`: what a `TestedRun` is of. `Replay`: what is
-//!   drawn. `Drawn`: what is known of a run once its challenges are drawn. `OfDrawn`, `OfRun`: the
-//!   relation, its parts, and the lists that calls hand on, over a `DrawnRun` and an `OpenedRun`.
-//!   `Shape`, `Batches`, `Rows`, `Sums`, `FirstLayer`, `Rounds`: definitions of private contracts.
+//!   records; `Tested`: what they establish. `OfTested`: what a `TestedRun` is of. `Replay`: what
+//!   is drawn. `Drawn`: what is known of a run once its challenges are drawn. `OfDrawn`, `OfRun`:
+//!   the relation, its parts, and the lists that calls hand on, over a `DrawnRun` and an
+//!   `OpenedRun`. `Shape`, `Batches`, `Rows`, `Sums`, `FirstLayer`, `Rounds`: definitions of
+//!   private contracts.
 //! - In `proofs/`, `Domains`, `HeightTests`, `ShapeTests`, `Seeding`, `Known`, `Finite`, `Claimed`:
-//!   the tests. `Items`, `Replayed`: the transcript. `Sizes`, `Lengths`, `Points`, `Rows`: shapes and
-//!   rows. Those that begin with `Reduced`, `FirstLayer` and `Rounds`, and `LastWord`: each part.
-//!   `Verified`: the relation, and back.
+//!   the tests. `Items`, `Replayed`: the transcript. `Sizes`, `Lengths`, `Points`, `Rows`: shapes
+//!   and rows. Those that begin with `Reduced`, `FirstLayer` and `Rounds`, and `LastWord`: each
+//!   part. `Verified`: the relation, and back.
 #![tactic(auto)]
 
 pub mod batches;

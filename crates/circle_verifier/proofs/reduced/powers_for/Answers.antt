@@ -23,7 +23,8 @@ returns-clause-enough g c =
     let claims = c.args.claims.now in
     let Of = λ (powers : Vec g.row.EF.Denot Global). powers.items
     ≡ map (λ i. nth_power l c.args.alpha i) (range_with_len 0 n) in
-    IfOk-weaker c.powers.result Of (λ powers. All (λ d. length d.1.now < length powers.items) claims)
+    IfOk-weaker c.powers.result Of
+    (λ powers. All (λ d. length d.1.now < length powers.items) claims)
     (λ powers are. All-weaker (λ d. length d.1.now ≤ c.greatest_width.result)
     (λ d. length d.1.now < length powers.items)
     (λ d le. let long = length-powers l c.args.alpha n powers.items are in

@@ -23,7 +23,8 @@ turn-here : (g : given.Over) (c : In-Some g) →
     × (c.in-Some.batch.now ≡ get_or claims i c.in-Some.batch.now)
     × (c.in-Some.opening.now ≡ get_or opened i c.in-Some.opening.now)
 turn-here g c =
-    turn-at c.loop-batch.yielded _ c.next.new.self c.into_iter-batch-iterator.ensures.into_iter_gives c.zip-batch-items.ensures.first
+    turn-at c.loop-batch.yielded _ c.next.new.self
+    c.into_iter-batch-iterator.ensures.into_iter_gives c.zip-batch-items.ensures.first
     c.iter.ensures.rest c.zip-batch-items.ensures.second.0 c.loop-batch.yielded_by c.in-Some.is
     c.next.ensures.steps
 
@@ -70,9 +71,10 @@ returns g c =
     let run = c.args.self.now.run in
     let claims = run.claims.now in
     let opened = run.proof.now.fri_proof.input_openings.input_openings.items in
-    let last = turns-end c.loop-batch.yielded _ c.next.new.self c.into_iter-batch-iterator.ensures.into_iter_gives
-    c.zip-batch-items.ensures.first c.iter.ensures.rest c.zip-batch-items.ensures.second.0
-    c.loop-batch.yielded_by c.in-None.is c.next.ensures.steps in
+    let last = turns-end c.loop-batch.yielded _ c.next.new.self
+    c.into_iter-batch-iterator.ensures.into_iter_gives c.zip-batch-items.ensures.first
+    c.iter.ensures.rest c.zip-batch-items.ensures.second.0 c.loop-batch.yielded_by c.in-None.is
+    c.next.ensures.steps in
     c.loop-batch.invariant
     ∙ ap (λ ps. rows_claimed run.params.now.log_blowup (all_placed ps))
     (take_all (length c.loop-batch.yielded) (zip (batch_claims claims) (map opened_batch opened))
