@@ -246,8 +246,9 @@ module _ {F E I W IC ID IP IE WC WD WP WE : Type 0} {g ext over inputs ic ip ie 
               ∙ here.fits.0 ∙ of_queries ∙ sym so_far.counted) is_new in
               let both : Adds l k.embed o.run.alpha points none (λ j. before j ++ one j) l.one after
               old new =
-              subst (λ e. Adds l k.embed o.run.alpha points none (λ j. before j ++ one j) l.one e
-              old new) (sym is_after)
+              subst
+              (λ e. Adds l k.embed o.run.alpha points none (λ j. before j ++ one j) l.one e old new)
+              (sym is_after)
               (adds-both l k.embed o.run.alpha points none before one l.one offset
               (l.mul (l.mul offset power) power) old sums new so_far.adds step) in
               record {

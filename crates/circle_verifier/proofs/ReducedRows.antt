@@ -1,7 +1,6 @@
 -- The claims of all batches, one after another, each with where the rows of its matrix stand.
-use Rattle.std.specs.Prelude.{◌≡◌, ℕ, ◌+◌, ◌-◌, ◌<◌, ◌==◌, Bool, true, false, if◌then◌else◌}
-use Rattle.std.specs.Prelude.{List, []}
-use Rattle.std.specs.Prelude.{◌∷◌, ◌++◌, length, map, flat_map, zip, All, slice_index_or}
+use Rattle.std.specs.Prelude.{◌≡◌, ℕ, ◌+◌, ◌-◌, ◌<◌, ◌==◌, Bool, true, false, if◌then◌else◌, List}
+use Rattle.std.specs.Prelude.{[], ◌∷◌, ◌++◌, length, map, flat_map, zip, All, slice_index_or}
 use Rattle.std.specs.Prelude.{replicate}
 use Rattle.std.proofs.Common.{zero, suc, refl, sym, ◌∙◌, ap, subst, take, drop, arith}
 use Rattle.std.proofs.lemmas.List.{append_assoc, append-nil, length-map, get_or-map, map-append}
@@ -131,9 +130,8 @@ module _ {F E : Type 0} where
     abbrev Each : (Claimed F E → Type 0) → MatrixClaim E × Place F → Type 0
     Each P m = All (λ c. P (c, (log_height blowup m.0, m.1))) m.0.claims
 
-    all-placed : (P : Claimed F E → Type 0) (ms : List (MatrixClaim E × Place F))
-        → All (Each P) ms →
-        All P (claims_placed ms)
+    all-placed : (P : Claimed F E → Type 0) (ms : List (MatrixClaim E × Place F)) →
+        All (Each P) ms → All P (claims_placed ms)
     all-placed P ms all =
         let each = λ (m : MatrixClaim E × Place F). map (λ c. (c, (log_height blowup m.0, m.1)))
         m.0.claims in

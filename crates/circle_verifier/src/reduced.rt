@@ -68,8 +68,8 @@ fn push_rows<'a, Val: ComplexExtendable, EF>(
     matrices: &[MatrixOpening<EF, CircleDomain<Val>>],
 ) -> Result<(), AllocError>
     requires { All (λ m. log_size m.domain + log_blowup ≤ 62) matrices.now }
-    ensures { OnOk result (map rows_at rows.new.items ≡ map rows_at rows.old.items ++
-        rows_claimed log_blowup (placed (opened_rows opened.now) 0 (matrix_claims matrices.now))) }
+    ensures { let ms = placed (opened_rows opened.now) 0 (matrix_claims matrices.now) in OnOk result
+        (map rows_at rows.new.items ≡ map rows_at rows.old.items ++ rows_claimed log_blowup ms) }
 {
     for (i, matrix) in matrices.iter().enumerate() {
         let claimed = ClaimedRows {

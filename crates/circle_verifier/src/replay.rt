@@ -102,8 +102,8 @@ fn push_batch<'a, F: ComplexExtendable, EF: Field>(
     Ok(())
 }
 
-// The claims as the transcript absorbs them and the quotients take them, one after another.
-// Requires points that are not at infinity.
+// The claims as the transcript and the quotients take them, one after another. Requires points that
+// are not at infinity.
 fn opening_claims<'a, F: ComplexExtendable, EF: Field, Com>(
     alloc: Global,
     batches: &'a [CommitmentOpening<EF, Com, CircleDomain<F>>],

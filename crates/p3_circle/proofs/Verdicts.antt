@@ -135,8 +135,8 @@ reason-memory {k = k} {m = m} {inputs = inputs} {words = words} {mmcs = mmcs} {p
     word_memory e r.reason accepts.inputs_shape accepts.fit.claimed accepts.fit.large accepts.holds
 
 -- what a run with its challenges says of the parts that it is made of
-module _ {C S F E I W IC ID IP IE WC WD WP WE : Type 0} {g ext over inputs ic ip ie words wc wp we : _}
-    {m : RunMoves C S F E WC}
+module _ {C S F E I W IC ID IP IE WC WD WP WE : Type 0}
+    {g ext over inputs ic ip ie words wc wp we : _} {m : RunMoves C S F E WC}
     (d : DrawnRun F E I W IC ID IP IE WC WD WP WE g ext over inputs ic ip ie words wc wp we)
     (p : FriParameters W) (claims : List (CommitmentOpening E IC (CircleDomain F g)))
     (proof : CirclePcsProof F E I W F IC ID IP IE WC WD WP WE)

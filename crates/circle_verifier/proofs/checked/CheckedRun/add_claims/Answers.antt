@@ -12,23 +12,30 @@ use Rattle.circle_verifier.proofs.checked.CheckedRun.add_claims.Goals as goal
 use Rattle.circle_verifier.proofs.checked.CheckedRun.add_claims.Goals.{In-Some, In-None}
 
 -- this turn's claim, and where its rows are
+turn-here : (g : Over) (c : In-Some g) →
+    let points = c.args.self.now.run.claimed_points.now in
+    let rows = c.args.rows.now in
+    let i = length c.loop-claim.yielded in
+    (i < length points) × (i < length rows)
+    × (c.in-Some.claim.now ≡ slice_index_or points i c.in-Some.claim.now)
+    × (c.in-Some.place.now ≡ slice_index_or rows i c.in-Some.place.now)
+turn-here g c =
+    turn-at c.loop-claim.yielded _ c.next.new.self
+    c.into_iter-claim-iterator.ensures.into_iter_gives c.zip-claim-items.ensures.first
+    c.iter.ensures.rest c.zip-claim-items.ensures.second.0 c.loop-claim.yielded_by c.in-Some.is
+    c.next.ensures.steps
+
 read-here : (g : Over) (c : In-Some g) →
     IsRead c.args.self.now c.in-Some.claim.now c.in-Some.place.now (length c.loop-claim.yielded)
 read-here g c =
-    let turn = turn-at c.loop-claim.yielded _ c.next.new.self
-    c.into_iter-claim-iterator.ensures.into_iter_gives c.zip-claim-items.ensures.first
-    c.iter.ensures.rest c.zip-claim-items.ensures.second.0 c.loop-claim.yielded_by c.in-Some.is
-    c.next.ensures.steps in
+    let turn = turn-here g c in
     read c.args.self.now c.in-Some.claim.now c.in-Some.place.now (length c.loop-claim.yielded)
     c.args.rows.now c.requires.rows turn.0 turn.1 turn.2 turn.3
 
 enough-here : (g : Over) (c : In-Some g) →
     length c.in-Some.claim.now.1.now < length c.args.word.now.powers.now
 enough-here g c =
-    let turn = turn-at c.loop-claim.yielded _ c.next.new.self
-    c.into_iter-claim-iterator.ensures.into_iter_gives c.zip-claim-items.ensures.first
-    c.iter.ensures.rest c.zip-claim-items.ensures.second.0 c.loop-claim.yielded_by c.in-Some.is
-    c.next.ensures.steps in
+    let turn = turn-here g c in
     subst (λ d. length d.1.now < length c.args.word.now.powers.now) (sym turn.2)
     (c.requires.enough (length c.loop-claim.yielded) c.in-Some.claim.now turn.0)
 
@@ -66,9 +73,9 @@ add_quotients-requires-clause-enough g c =
 
 pub returns-in_err-add_quotients-clause-none : goal.returns-in_err-add_quotients-clause-none
 returns-in_err-add_quotients-clause-none g c = λ none.
-    let here = read-here g (goal.at.returns-in_err-add_quotients-clause-none g c).In-Some in
-    meets-read c.args.self.now c.args.word.now here c.if-place-word.true
-    (c.in_err-add_quotients.ensures.none refl)
+    meets-read c.args.self.now c.args.word.now
+    (read-here g (goal.at.returns-in_err-add_quotients-clause-none g c).In-Some)
+    c.if-place-word.true (c.in_err-add_quotients.ensures.none refl)
 
 pub bounds-word-values : goal.bounds-word-values
 bounds-word-values g c = enough-here g (goal.at.bounds-word-values g c).In-Some
