@@ -5,8 +5,7 @@ ghost use Rattle.circle_domain.specs.Domain.{log_size};
 ghost use Rattle.circle_relation.specs.Statement.{log_max_height};
 ghost use Rattle.circle_relation.specs.StatementOf.{matrix_claim, matrix_claims};
 ghost use Rattle.circle_verifier.specs.OfRun.{InputsAuthenticate, Refuses};
-ghost use Rattle.circle_verifier.specs.Batches.{claimed_width, claimed_shape, AreShown};
-ghost use Rattle.circle_verifier.specs.Batches.{RefusesRows};
+ghost use Rattle.circle_verifier.specs.Batches.{claimed_width, claimed_shape, AreShown, RefusesRows};
 
 use crate::run::OpenedRun;
 use circle_commit::{
