@@ -1,3 +1,4 @@
+pub mod Added
 pub mod Claims
 pub mod Combinations
 pub mod DomainPoints
@@ -6,7 +7,9 @@ pub mod Known
 pub mod Lifts
 pub mod Logs
 pub mod Opened
+pub mod OpenedClaims
 pub mod Pairs
+pub mod Points
 pub mod Prefix
 pub mod Quotients
 pub mod Widths

@@ -47,6 +47,7 @@
 pub mod combined;
 pub mod corrected;
 pub mod matrix;
+pub mod points;
 pub mod ratios;
 pub mod reduced;
 pub mod rounds;
@@ -55,6 +56,7 @@ pub mod values;
 pub use combined::LIFT_WIDTH;
 pub use corrected::fold_corrected;
 pub use matrix::{BatchedMatrices, MatrixAtPoints, OpenedMatrix, PointWeights};
+pub use points::OpeningPoint;
 pub use ratios::{PointRatios, standard_points, vanishing_ratios};
 pub use rounds::fold_round;
 pub use values::are_off_domain;

@@ -113,12 +113,12 @@ module _ {F E I W IC ID IP IE WC WD WP WE : Type 0} {over inputs ic ip ie words 
           (λ i m lt. let tall = tall-with i m lt in omega (arith, tall))
 
       -- the matrices as they are listed: the greatest height
-      pub top-listed : (list : List (OpenedMatrix F E over)) → AreMatricesWith o values list →
+      pub top-listed : {g : _} (list : List (OpenedMatrix F E over g)) → AreMatricesWith o values list →
           greatest (map (λ m. m.log_height) list) ≡ top_of (seen_with o values)
       top-listed list are = top-seen over.fields o.params.now.log_blowup list ∙ ap top_of are
 
       -- the claims on them as the transcript takes them in
-      pub taken-listed : (l : FieldOps E) (list : List (OpenedMatrix F E over))
+      pub taken-listed : (l : FieldOps E) {g : _} (list : List (OpenedMatrix F E over g))
           (taken : List (Claim E)) → AreMatricesWith o values list →
           ((k : Fields F E) (blowup : ℕ) → taken ≡ flat_map (λ m. map (point_taken l) m.claims)
           (map (committed_of k blowup) list)) → taken ≡ claims_taken l (claims_with o values)
@@ -149,7 +149,7 @@ module _ {F E I W IC ID IP IE WC WD WP WE : Type 0} {over inputs ic ip ie words 
             low-with
 
         -- of the matrices as they are listed: there is one, and each leaves something to fold
-        pub listed-tall : (list : List (OpenedMatrix F E over)) → AreMatricesWith o values list →
+        pub listed-tall : {g : _} (list : List (OpenedMatrix F E over g)) → AreMatricesWith o values list →
             (1 ≤ length list) × All (λ m. o.params.now.log_blowup
             + o.params.now.log_final_poly_len + 2 ≤ m.log_height) list
         listed-tall list are =

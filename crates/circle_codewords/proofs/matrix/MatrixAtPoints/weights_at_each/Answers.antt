@@ -5,6 +5,7 @@ use Rattle.std.proofs.lemmas.List.{take_all, take_more}
 use Rattle.circle_field.proofs.Inverses.{some_unless}
 use Rattle.circle_codewords.specs.OfMatrices.{AreWeightsFor, IsFor}
 use Rattle.circle_codewords.specs.declared.matrix.PointWeights.{PointWeights}
+use Rattle.circle_codewords.specs.declared.points.OpeningPoint.{OpeningPoint}
 use Rattle.circle_codewords.proofs.Known.{weights-for}
 use Rattle.circle_codewords.proofs.Zips.{zip-pushed}
 use Rattle.circle_codewords.proofs.matrix.MatrixAtPoints.weights_at_each.Goals as goal
@@ -17,24 +18,25 @@ unwrap-known-requires g c =
     c.weights_at.ensures.none none known.0 known.1 known.2
     (ap (λ (w : Weights). w.log_blowup) known.3 ∙ known.4.0)
     (ap (λ (w : Weights). w.log_height) known.3 ∙ known.4.1)
-    (ap (λ (w : Weights). w.point) known.3 ∙ known.4.2 ∙ sym c.point-item.is))
+    (ap (λ (w : Weights). w.point) known.3 ∙ known.4.2
+    ∙ sym (ap (λ (p : OpeningPoint g.row.EF.Denot _). p.coordinate) c.point-item.is)))
 
 pub loop-point-preserved : goal.loop-point-preserved
 loop-point-preserved g c =
     let points = c.args.self.now.points.now in
     let i = c.loop-point.point-index in
-    let t = c.point-item.result in
+    let p = c.point-item.result in
     let w = c.unwrap-known.result in
     let Is = AreWeightsFor c.args.self.now c.args.log_blowup in
     let found =
-    subst (λ o. IfSome o (λ f. IsFor c.args.log_blowup c.args.self.now.log_height t f.now))
+    subst (λ o. IfSome o (λ f. IsFor c.args.log_blowup c.args.self.now.log_height p.coordinate f.now))
     c.unwrap-known.ensures c.weights_at.ensures.some in
-    subst (λ ts. AllZip Is ts c.push.new.self.items) (ap (λ p. take i points ++ p ∷ [])
+    subst (λ ts. AllZip Is ts c.push.new.self.items) (ap (λ q. take i points ++ q ∷ [])
     c.point-item.is
-    ∙ sym (take_more points i t c.loop-point-test.true))
-    (zip-pushed Is (take i points) c.loop-point.lent.items c.push.new.self.items t _
+    ∙ sym (take_more points i p c.loop-point-test.true))
+    (zip-pushed Is (take i points) c.loop-point.lent.items c.push.new.self.items p _
     c.in_ok-push.ensures.items c.loop-point.invariant
-    (weights-for c.args.self.now c.args.log_blowup t w.now _ found refl))
+    (weights-for c.args.self.now c.args.log_blowup p w.now _ found refl))
 
 pub returns : goal.returns
 returns g c =
