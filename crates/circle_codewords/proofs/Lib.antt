@@ -1,4 +1,5 @@
 pub mod Added
+pub mod AtPoints
 pub mod Claims
 pub mod Combinations
 pub mod DomainPoints
@@ -9,7 +10,6 @@ pub mod Logs
 pub mod Opened
 pub mod OpenedClaims
 pub mod Pairs
-pub mod Points
 pub mod Prefix
 pub mod Quotients
 pub mod Widths

@@ -5,7 +5,7 @@ use Rattle.std.proofs.Common.{zero, suc, refl, sym, ap, subst, arith}
 use Rattle.std.proofs.lemmas.List.Elements.{All-nil, All-cons}
 
 module _ {X Y : Type 0} (R : X → Y → Type 0) where
-  zip-push : (xs : List X) (ys : List Y) (x : X) (y : Y) → AllZip R xs ys → R x y →
+  pub zip-push : (xs : List X) (ys : List Y) (x : X) (y : Y) → AllZip R xs ys → R x y →
       AllZip R (xs ++ x ∷ []) (ys ++ y ∷ [])
   zip-push [] [] x y all here = (here, tt)
   zip-push [] (b ∷ ys) x y all here = absurd all

@@ -3,30 +3,34 @@ use Rattle.std.specs.Prelude.{◌≡◌, ◌+◌, ◌^◌, ◌<◌, ◌≤◌, L
 use Rattle.std.specs.Prelude.{slice_index_or}
 use Rattle.std.specs.List.{AllZip}
 use Rattle.std.specs.declared.alloc.Global.{Global}
-use Rattle.std.proofs.Common.{ℕ, sym, ap, ◌∙◌, subst, arith, get_or}
-use Rattle.std.proofs.lemmas.List.{get_or-map, length-map}
+use Rattle.std.proofs.Common.{ℕ, refl, sym, ap, ◌∙◌, subst, arith, get_or}
+use Rattle.std.proofs.lemmas.List.{length-map}
+use Rattle.std.proofs.lemmas.Slice.Zip.{length-zip}
 use Rattle.circle_commit.specs.Mmcs.{greatest, opened_rows}
 use Rattle.circle_commit.specs.Pcs.{Openings, openings}
 use Rattle.circle_commit.specs.RowMajorMatrix.{height_of}
 use Rattle.circle_commit.specs.declared.matrix.RowMajorMatrix.{RowMajorMatrix}
 use Rattle.circle_commit.specs.declared.pcs.OpeningRequest.{OpeningRequest}
+use Rattle.circle_domain.specs.Selectors.{IsFinite}
 use Rattle.circle_field.specs.Field.{FieldOps}
 use Rattle.circle_relation.specs.Accepts.{Fields}
 use Rattle.circle_relation.specs.Statement.{all_matrices, log_max_height}
 use Rattle.circle_relation.specs.Taken.{claims_taken, point_taken, widths_by}
 use Rattle.circle_transcript.specs.Draw.{Claim}
 use Rattle.circle_codewords.specs.Requests.{AreAnswers, AreHeights, IsFit, all_committed}
-use Rattle.circle_codewords.specs.Requests.{IsOpenable, lists_of, log_of}
+use Rattle.circle_codewords.specs.Requests.{IsOpenable, lists_of, log_of, points_of}
 use Rattle.circle_codewords.specs.Words.{Committed, committed_of}
 use Rattle.circle_codewords.specs.declared.matrix.OpenedMatrix.{OpenedMatrix}
+use Rattle.circle_codewords.proofs.AtPoints.{All-unmap}
+use Rattle.circle_codewords.proofs.Zips.{zip-length, zip-second}
 use Rattle.circle_prover.specs.OfRequests.{AreAnsweredBy, AreMatricesWith, AreOpenableAt}
-use Rattle.circle_prover.specs.OfRequests.{AreValuesAt, claims_with, seen_with}
+use Rattle.circle_prover.specs.OfRequests.{AreValued, asked_in, claims_with, seen_with}
 use Rattle.circle_prover.specs.Words.{AreTall, top_of}
 use Rattle.circle_prover.specs.declared.openable.OpenableRequests.{OpenableRequests}
 use Rattle.circle_prover.proofs.Answered.{all-some, batch-heights, fit-known, heights-back}
 use Rattle.circle_prover.proofs.Answered.{heights-known}
 use Rattle.circle_prover.proofs.Asked.{all-taken, all-widths, top-claimed}
-use Rattle.circle_prover.proofs.Requested.{as-long, at-place, map-at}
+use Rattle.circle_prover.proofs.Requested.{at-place, batch-valued, map-at, values-valued}
 use Rattle.circle_prover.proofs.Seen.{top-seen}
 use Rattle.circle_prover.proofs.Tops.{matrices-low, top-known}
 
@@ -44,48 +48,58 @@ module _ {F E I W IC ID IP IE WC WD WP WE : Type 0} {over inputs ic ip ie words 
         (subst (IsFit inputs.matrices over.fields o.params.now.log_blowup over.fields.two_adicity)
         (sym is) (o.openable.fit i r lt)))
 
-    -- and there is a list of points for each
-    pub request-lists : (i : ℕ) (r : OpeningRequest ID E) (ms : List (RowMajorMatrix F))
-        (points : List (Vec E Global)) → i < length o.requests.now →
-        r ≡ get_or o.requests.now i r → ms ≡ inputs.matrices r.prover_data.now →
-        points ≡ r.points.items → length points ≡ length ms
-    request-lists i r ms points lt is are given =
-        sym (length-map points (λ v. v.items))
-        ∙ sym (as-long (IsOpenable over.fields over.fields.two_adicity o.params.now.log_blowup) ms
-        (lists_of points) (request-openable i r ms points lt is are given))
+    -- there is a list of points for each of its matrices, and each coordinate belongs to a point
+    pub request-lists : (i : ℕ) (r : OpeningRequest ID E) → i < length o.requests.now →
+        r ≡ get_or o.requests.now i r →
+        length (inputs.matrices r.prover_data.now) ≡ length (points_of inputs.matrices r)
+    request-lists i r lt is =
+        zip-length (IsOpenable over.fields over.fields.two_adicity o.params.now.log_blowup)
+        (inputs.matrices r.prover_data.now) (points_of inputs.matrices r)
+        (request-openable i r _ _ lt is refl refl)
 
-    -- there are values for each request
-    pub values-count : (batches : List (Vec (Vec (Vec E Global) Global) Global)) →
-        AreAnsweredBy o (openings batches) → length batches ≡ length o.requests.now
-    values-count batches answered =
-        sym
-        (length-map batches
-        (λ (v : Vec (Vec (Vec E Global) Global) Global). opened_rows v.items))
-        ∙ sym (as-long (AreAnswers inputs.matrices over.fields o.params.now.log_blowup)
-        o.requests.now (openings batches) answered)
+    pub request-count : (i : ℕ) (r : OpeningRequest ID E) → i < length o.requests.now →
+        r ≡ get_or o.requests.now i r → length (asked_in inputs.matrices r) ≡ length r.points.items
+    request-count i r lt is =
+        omega (
+          arith,
+          length-zip (inputs.matrices r.prover_data.now) (points_of inputs.matrices r),
+          request-lists i r lt is,
+          length-map r.points.items (λ v. v.items),
+        )
 
-    -- the values of a request, by the names that the code has for them, its matrices and its points
-    pub request-answered : (batches : List (Vec (Vec (Vec E Global) Global) Global)) →
+    pub request-finite : (i : ℕ) (r : OpeningRequest ID E) → i < length o.requests.now →
+        r ≡ get_or o.requests.now i r →
+        All (λ v. All (IsFinite over.fields.extension) v.items) r.points.items
+    request-finite i r lt is =
+        All-unmap (All (IsFinite over.fields.extension)) (λ v. v.items) r.points.items
+        (zip-second (IsOpenable over.fields over.fields.two_adicity o.params.now.log_blowup)
+        (All (IsFinite over.fields.extension)) (λ m points can. can.off.0)
+        (inputs.matrices r.prover_data.now) (points_of inputs.matrices r)
+        (request-openable i r _ _ lt is refl refl))
+
+    -- values of its matrices at their points answer it
+    pub request-answered : (i : ℕ) (r : OpeningRequest ID E) (values : List (List (List E))) →
+        i < length o.requests.now → r ≡ get_or o.requests.now i r →
+        AreValued o (asked_in inputs.matrices r) values →
+        AreAnswers inputs.matrices over.fields o.params.now.log_blowup r values
+    request-answered i r values lt is valued =
+        batch-valued over.fields o.params.now.log_blowup (inputs.matrices r.prover_data.now)
+        (points_of inputs.matrices r) values (request-lists i r lt is) valued
+
+    -- and what answers it are such values
+    pub request-valued : (batches : List (Vec (Vec (Vec E Global) Global) Global)) →
         AreAnsweredBy o (openings batches) → (i : ℕ) (r : OpeningRequest ID E)
-        (b : Vec (Vec (Vec E Global) Global) Global) (ms : List (RowMajorMatrix F))
-        (points : List (Vec E Global)) (values : List (Vec (Vec E Global) Global)) →
-        i < length o.requests.now → i < length batches → r ≡ get_or o.requests.now i r →
-        b ≡ get_or batches i b → ms ≡ inputs.matrices r.prover_data.now →
-        points ≡ r.points.items → values ≡ b.items →
-        (length values ≡ length points) × AreValuesAt o ms (lists_of points) (opened_rows values)
-    request-answered batches answered i r b ms points values lt lt' is is' are given lent =
+        (b : Vec (Vec (Vec E Global) Global) Global) → i < length o.requests.now →
+        i < length batches → r ≡ get_or o.requests.now i r → b ≡ get_or batches i b →
+        AreValued o (asked_in inputs.matrices r) (opened_rows b.items)
+    request-valued batches answered i r b lt lt' is is' =
         let rows : Vec (Vec (Vec E Global) Global) Global → List (List (List E)) =
         λ v. opened_rows v.items in
         let answers = at-place (AreAnswers inputs.matrices over.fields o.params.now.log_blowup)
         o.requests.now (openings batches) i r (rows b) answered lt is
-        (map-at rows batches i b lt' is') in (
-          ap length lent ∙ sym (length-map b.items (λ v. lists_of v.items)) ∙ answers.1
-              ∙ length-map r.points.items (λ v. v.items) ∙ sym (ap length given),
-          subst (λ vs. AreValuesAt o ms (lists_of points) (opened_rows vs)) (sym lent)
-              (subst (λ ps. AreValuesAt o ms (lists_of ps) (opened_rows b.items)) (sym given)
-              (subst (λ xs. AreValuesAt o xs (lists_of r.points.items) (opened_rows b.items))
-              (sym are) answers.0)),
-        )
+        (map-at rows batches i b lt' is') in
+        values-valued over.fields o.params.now.log_blowup (inputs.matrices r.prover_data.now)
+        (points_of inputs.matrices r) (rows b) (request-lists i r lt is) answers.0 answers.1
 
     module _ (values : Openings E) where
       -- each matrix leaves something to fold, and the group has a domain for it
@@ -155,12 +169,9 @@ module _ {F E I W IC ID IP IE WC WD WP WE : Type 0} {over inputs ic ip ie words 
         listed-tall list are =
             let read = committed_of over.fields o.params.now.log_blowup in
             let IsTall : Committed F E → Type 0 =
-            λ m. o.params.now.log_blowup + o.params.now.log_final_poly_len + 2 ≤ m.log_height in
-            let tall = subst (All IsTall) (sym are) are-tall.1 in (
+            λ m. o.params.now.log_blowup + o.params.now.log_final_poly_len + 2 ≤ m.log_height in (
               omega (arith, are-tall.0, ap length are, length-map list read),
-              λ i d lt.
-                  subst IsTall (get_or-map read list i d (read d) lt)
-                  (tall i (read d) (omega (arith, lt, length-map list read))),
+              All-unmap IsTall read list (subst (All IsTall) (sym are) are-tall.1),
             )
 
         -- the numbers of columns of what is claimed

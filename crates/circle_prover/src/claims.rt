@@ -67,8 +67,8 @@ impl<
     {
         let mut list = Vec::with_capacity(alloc, matrices.len())?;
         let mut rest = matrices;
-        for values in values {
-            let (batch, others) = rest.split_at(values.len());
+        for (request, values) in self.requests.iter().zip(values) {
+            let (batch, others) = rest.split_at(request.points.len());
             self.push_opened(&mut list, batch, values)?;
             rest = others;
         }

@@ -1,4 +1,4 @@
-use Rattle.std.proofs.Common.{◌≡◌, ◌<◌, [], ◌∙◌, refl, sym, ap, subst, arith, map, take, length}
+use Rattle.std.proofs.Common.{◌≡◌, ◌+◌, ◌<◌, [], ◌∙◌, refl, sym, ap, subst, arith, map, take, length}
 use Rattle.std.proofs.Common.{slice_index_or, All}
 use Rattle.std.specs.Prelude.{IfSome, vec_len}
 use Rattle.std.specs.List.{Any}
@@ -26,7 +26,7 @@ use Rattle.circle_codewords.proofs.Added.{claim-adds, count-points, count-read}
 use Rattle.circle_codewords.proofs.Claims.{claim-after, claims_among}
 use Rattle.circle_codewords.proofs.Known.{right-of}
 use Rattle.circle_codewords.proofs.OpenedClaims.{claim-at, claims-count, valued-at}
-use Rattle.circle_codewords.proofs.Points.{off-points}
+use Rattle.circle_codewords.proofs.AtPoints.{off-points}
 use Rattle.circle_codewords.proofs.matrix.BatchedMatrices.add_matrix.Given.{Over}
 use Rattle.circle_codewords.proofs.matrix.BatchedMatrices.add_matrix.Goals as goal
 
@@ -53,8 +53,8 @@ returns-then-is_empty g c =
     (adds-none k.extension k.embed c.args.self.now.alpha points (origin k.field) c.args.offset
     c.args.sums.now)
 
-pub combined_claim-requires : goal.combined_claim-requires
-combined_claim-requires g c =
+pub combined_claim-claimed-requires : goal.combined_claim-claimed-requires
+combined_claim-claimed-requires g c =
     omega (
       arith,
       ap length (c.deref.ensures.value ∙ ap (λ v. v.items) (sym c.index-matrix-i.is)),
@@ -98,6 +98,12 @@ add_quotients-requires-clause-combined g c =
     matrix.openable.positive matrix.openable.rows
     ∙ sym (c.loop-i.invariant.counted ∙ c.requires.size)
 
+pub mul-requires-in-loop-i : goal.mul-requires-in-loop-i
+mul-requires-in-loop-i g c = g.met.EF.Field.can_mul_law _ _
+
+pub mul-after-requires : goal.mul-after-requires
+mul-after-requires g c = g.met.EF.Field.can_mul_law _ _
+
 pub loop-i-preserved : goal.loop-i-preserved
 loop-i-preserved g c =
     let b = c.args.self.now in
@@ -116,7 +122,7 @@ loop-i-preserved g c =
     let t = p.coordinate in
     let vs = c.index-matrix-i.result in
     let powers = c.as_slice-powers.result.now in
-    let power = c.combined_claim.result.1 in
+    let power = c.combined_claim-claimed.result.1 in
     let within : i < length matrix.points.now = c.loop-i-test.true in
     let wide = valued-at matrix i vs within c.index-matrix-i.is in
     let enough : length vs.items < length powers =
@@ -125,7 +131,7 @@ loop-i-preserved g c =
     let Apart = λ (q : OpeningPoint g.row.EF.Denot _). IsApart k.embed points (coordinates q.point) in
     let apart = subst (IsApart k.embed points) p.at
     (subst Apart (sym c.point-item.is)
-    (off-points h matrix.points.now laws embedding gens positive (omega (arith, top))
+    (off-points k.field k.embed k.gen h matrix.points.now laws embedding gens positive (omega (arith, top))
     matrix.openable.off.1 i p within)) in
     let found =
     subst
@@ -137,22 +143,22 @@ loop-i-preserved g c =
     let claims : c.deref.result.now ≡ vs.items = c.deref.ensures.value
     ∙ ap (λ v. v.items) (sym c.index-matrix-i.is) in
     let is_power : power ≡ nth_power l b.alpha (length vs.items) =
-    c.combined_claim.ensures.power b.alpha are ∙ ap (λ ws. nth_power l b.alpha (length ws)) claims in
+    c.combined_claim-claimed.ensures.power b.alpha are ∙ ap (λ ws. nth_power l b.alpha (length ws)) claims in
     let mul = g.met.EF.Field.mul_law in
     let step = claim-adds k laws gens b.log_blowup h matrix.rows.now positive matrix.openable.rows
     g.EF.Operations.laws g.met.EF.Field.eq_law embedding top b.alpha t powers vs.items
     c.unwrap-ratios.result.now c.deref-in-loop-i.result.now c.loop-i.sums
     c.add_quotients.new.sums c.loop-i.after c.halve-half.result power
-    c.combined_claim.result.0 are wide (omega (arith, enough))
+    c.combined_claim-claimed.result.0 are wide (omega (arith, enough))
     (subst (IsOnCircle l) p.at p.point.on_circle) apart c.halve-half.ensures is_power
-    (c.combined_claim.ensures.claimed ∙ ap (dot l powers) claims)
+    (c.combined_claim-claimed.ensures.claimed ∙ ap (dot l powers) claims)
     (right-of l k.embed points c.args.ratios.now t c.unwrap-ratios.result.now c.requires.right
     found)
     (c.deref-in-loop-i.ensures.value ∙ c.in_ok-combined.ensures)
     (c.loop-i.invariant.counted ∙ c.requires.size)
     (c.add_quotients.ensures
     ∙ ap
-    (λ top. with_quotients l c.halve-half.result top c.combined_claim.result.0
+    (λ top. with_quotients l c.halve-half.result top c.combined_claim-claimed.result.0
     c.unwrap-ratios.result.now c.deref-in-loop-i.result.now c.loop-i.sums)
     (mul _ _ _ c.mul.ensures)) in
     let after : c.mul-after.result ≡ l.mul (l.mul c.loop-i.after power) power =

@@ -10,7 +10,7 @@ use Rattle.circle_codewords.specs.Values.{IsOffDomain}
 use Rattle.circle_codewords.specs.declared.matrix.OpenedMatrix.{OpenedMatrix}
 use Rattle.circle_codewords.specs.declared.points.OpeningPoint.{OpeningPoint}
 use Rattle.circle_codewords.specs.declared.ratios.PointRatios.{PointRatios}
-use Rattle.circle_codewords.proofs.Points.{off-points}
+use Rattle.circle_codewords.proofs.AtPoints.{off-points}
 use Rattle.circle_codewords.proofs.matrix.BatchedMatrices.all_ratios.Goals as goal
 use Rattle.circle_codewords.proofs.matrix.BatchedMatrices.all_ratios.Goals.{then-matrix-log_height+in_ok-add_ratios}
 use Rattle.circle_codewords.proofs.matrix.BatchedMatrices.all_ratios.Goals.{else-matrix-log_height}
@@ -29,7 +29,8 @@ add_ratios-requires-clause-apart g c =
     c.if-matrix-log_height.true one.openable.off.1 in
     subst (λ ps. All (λ (p : OpeningPoint g.row.EF.Denot _). IsApart m ps (coordinates p.point))
     one.points.now) (sym listed)
-    (off-points h one.points.now g.F.Operations.laws g.met.EF.ExtensionField.embedding
+    (off-points g.F.Operations.ops m g.F.ComplexExtendable.generators h one.points.now
+    g.F.Operations.laws g.met.EF.ExtensionField.embedding
     g.met.F.ComplexExtendable.generators_law c.requires.positive (omega (arith, top)) off)
 
 pub add_ratios-requires-clause-right : goal.add_ratios-requires-clause-right

@@ -5,7 +5,7 @@ use Rattle.std.proofs.lemmas.List.Elements.{All-more, All-weaker}
 use Rattle.circle_codewords.specs.OfMatrices.{IsFor, fields_at}
 use Rattle.circle_codewords.specs.Values.{IsOffDomain}
 use Rattle.circle_codewords.specs.declared.points.OpeningPoint.{OpeningPoint}
-use Rattle.circle_codewords.proofs.Points.{All-unmap}
+use Rattle.circle_codewords.proofs.AtPoints.{All-unmap}
 use Rattle.circle_codewords.proofs.matrix.MatrixAtPoints.add_all_weights.Goals as goal
 
 pub add_weights-requires-clause-off : goal.add_weights-requires-clause-off

@@ -17,7 +17,7 @@ use Rattle.circle_codewords.specs.Points.{coordinates_of}
 use Rattle.circle_codewords.specs.Values.{OpensTo}
 use Rattle.circle_codewords.specs.declared.points.OpeningPoint.{OpeningPoint}
 use Rattle.circle_codewords.proofs.Opened.{if_ok, counted, opens}
-use Rattle.circle_codewords.proofs.Points.{AllZip-onto}
+use Rattle.circle_codewords.proofs.AtPoints.{AllZip-onto}
 use Rattle.circle_codewords.proofs.Prefix.{first-genuine}
 use Rattle.circle_codewords.proofs.Zips.{zip-length, zip-read, zip-second, zip-through}
 use Rattle.circle_domain.specs.declared.lagrange.LagrangeWeights.{LagrangeWeights}

@@ -7,6 +7,7 @@ use Rattle.std.proofs.lemmas.List.Elements.{All-map}
 use Rattle.circle_field.specs.Field.{FieldOps, FieldLaws, IsEmbedding}
 use Rattle.circle_field.specs.Circle.{AreGenerators, Coordinates}
 use Rattle.circle_domain.specs.Clear.{IsClearOf}
+use Rattle.circle_domain.specs.Selectors.{IsFinite}
 use Rattle.circle_domain.specs.Order.{cfft_order}
 use Rattle.circle_folding.specs.Queries.{IsApart}
 use Rattle.circle_point.specs.Point.{coordinates}
@@ -28,14 +29,14 @@ AllZip-onto R f [] (z ∷ zs) all = absurd all
 AllZip-onto R f (x ∷ xs) [] all = absurd all
 AllZip-onto R f (x ∷ xs) (z ∷ zs) all = (all.0, AllZip-onto R f xs zs all.1)
 
-module _ {F E : Type 0} {k : FieldOps F} {g : _} {m : F → E} {gen : ℕ → Coordinates F} (h : ℕ)
+module _ {F E : Type 0} {g : _} (k : FieldOps F) (m : F → E) (gen : ℕ → Coordinates F) (h : ℕ)
     (points : List (OpeningPoint E g)) where
   -- a domain that is clear of each point, by their coordinates
   pub clear-off :
       All (λ p. IsClearOf g.ops m (domain_points k gen h) (coordinates p.point)) points →
       AreOffStandard k gen g.ops m h (coordinates_of points)
   clear-off clear = (
-    All-map _ (λ p. p.coordinate) points (λ i d lt. (slice_index_or points i d).finite),
+    All-map (IsFinite g.ops) (λ p. p.coordinate) points (λ i d lt. (slice_index_or points i d).finite),
     All-map (IsOffStandard k gen g.ops m h) (λ p. p.coordinate) points (λ i d lt.
         subst (IsClearOf g.ops m (domain_points k gen h)) (slice_index_or points i d).at
         (clear i d lt)),
