@@ -1,5 +1,5 @@
 -- Points that matrices are opened at, by their coordinates.
-use Rattle.std.specs.Prelude.{◌≡◌, ℕ, ◌+◌, ◌<◌, ◌≤◌, List, [], ◌∷◌, length, map, All, slice_index_or}
+use Rattle.std.specs.Prelude.{ℕ, ◌+◌, ◌≤◌, List, [], ◌∷◌, map, All, slice_index_or}
 use Rattle.std.specs.List.{AllZip}
 use Rattle.std.proofs.Common.{suc, sym, subst, arith}
 use Rattle.std.proofs.lemmas.List.{get_or-map, length-map}

@@ -1,12 +1,12 @@
 -- What an opening is requested of, and what it returns.
 use Rattle.std.specs.Prelude.{◌≡◌, ℕ, ◌+◌, ◌-◌, ◌^◌, ◌<◌, ◌≤◌, List, length, map, zip, flat_map}
-use Rattle.std.specs.Prelude.{All, nat_le, Vec, ◌++◌, [], ◌∷◌}
+use Rattle.std.specs.Prelude.{All, nat_le, Vec, [], ◌∷◌}
 use Rattle.std.specs.Coded.{×_prop, Unit-prop}
 use Rattle.std.specs.List.{AllZip, filter, range_with_len}
 use Rattle.std.specs.declared.alloc.Global.{Global}
 use Rattle.std.proofs.Common.{suc}
 use Rattle.std.proofs.Props.{props}
-use Rattle.circle_commit.specs.Mmcs.{HaveHeightsOfPowers, max_height, opened_rows}
+use Rattle.circle_commit.specs.Mmcs.{HaveHeightsOfPowers, max_height}
 use Rattle.circle_commit.specs.Pcs.{Openings}
 use Rattle.circle_commit.specs.RowMajorMatrix.{rows, width_of, height_of}
 use Rattle.circle_commit.specs.declared.matrix.RowMajorMatrix.{RowMajorMatrix}

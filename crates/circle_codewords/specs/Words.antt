@@ -1,6 +1,6 @@
 -- The codewords that an opening makes of committed matrices: Circle STARKs (ePrint 2024/278),
 -- sections 4 to 6.
-use Rattle.std.specs.Prelude.{◌≡◌, ℕ, ◌-◌, ◌/◌, ◌^◌, ◌<◌, ◌≤◌, ◌==◌, if◌then◌else◌, List, []}
+use Rattle.std.specs.Prelude.{◌≡◌, ℕ, ◌-◌, ◌/◌, ◌^◌, ◌<◌, ◌==◌, if◌then◌else◌, List, []}
 use Rattle.std.specs.Prelude.{length, map, flat_map, All, slice_index_or, Vec}
 use Rattle.std.specs.declared.alloc.Global.{Global}
 use Rattle.std.specs.List.{list_any, range_with_len}

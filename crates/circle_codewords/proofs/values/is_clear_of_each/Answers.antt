@@ -1,4 +1,4 @@
-use Rattle.std.proofs.Common.{◌∙◌, All, arith, subst, sym}
+use Rattle.std.proofs.Common.{◌∙◌, All, subst, sym}
 use Rattle.std.proofs.lemmas.List.{take_all}
 use Rattle.std.proofs.lemmas.List.Elements.{All-more}
 use Rattle.circle_domain.specs.Clear.{IsClearOf}

@@ -1,10 +1,8 @@
-use Rattle.std.proofs.Common.{◌≡◌, ◌+◌, ◌<◌, [], ◌∙◌, refl, sym, ap, subst, arith, map, take, length}
-use Rattle.std.proofs.Common.{slice_index_or, All}
-use Rattle.std.specs.Prelude.{IfSome, vec_len}
+use Rattle.std.proofs.Common.{◌≡◌, ◌+◌, ◌<◌, [], ◌∙◌, sym, ap, subst, arith, map, take, length}
+use Rattle.std.specs.Prelude.{IfSome}
 use Rattle.std.specs.List.{Any}
 use Rattle.std.proofs.lemmas.Bool.{eqb-true}
 use Rattle.std.proofs.lemmas.List.{take_all, length-map}
-use Rattle.std.proofs.lemmas.List.FromFn.{get_or-map-range_with_len}
 use Rattle.circle_field.specs.Circle.{origin, IsOnCircle}
 use Rattle.circle_field.specs.Field.{nth_power}
 use Rattle.circle_field.proofs.Inverses.{some_unless}
@@ -27,7 +25,6 @@ use Rattle.circle_codewords.proofs.Claims.{claim-after, claims_among}
 use Rattle.circle_codewords.proofs.Known.{right-of}
 use Rattle.circle_codewords.proofs.OpenedClaims.{claim-at, claims-count, valued-at}
 use Rattle.circle_codewords.proofs.AtPoints.{off-points}
-use Rattle.circle_codewords.proofs.matrix.BatchedMatrices.add_matrix.Given.{Over}
 use Rattle.circle_codewords.proofs.matrix.BatchedMatrices.add_matrix.Goals as goal
 
 pub unwrap-ratios-requires : goal.unwrap-ratios-requires

@@ -1,5 +1,4 @@
 use Rattle.std.proofs.Common.{sym, subst, All}
-use Rattle.std.specs.Borrow.{Bor}
 use Rattle.std.specs.List.{AllZip, Any}
 use Rattle.circle_codewords.specs.OfMatrices.{AreWeightsFor, IsFor}
 use Rattle.circle_codewords.specs.declared.points.OpeningPoint.{OpeningPoint}
