@@ -29,11 +29,15 @@ AllZip-onto R f [] (z ∷ zs) all = absurd all
 AllZip-onto R f (x ∷ xs) [] all = absurd all
 AllZip-onto R f (x ∷ xs) (z ∷ zs) all = (all.0, AllZip-onto R f xs zs all.1)
 
+-- the domain of a height is clear of a point
+abbrev pub IsClear : {F E : Type 0} {g : _} → FieldOps F → (F → E) → (ℕ → Coordinates F) → ℕ
+    → OpeningPoint E g → Type 0
+IsClear {g = g} k m gen h p = IsClearOf g.ops m (domain_points k gen h) (coordinates p.point)
+
 module _ {F E : Type 0} {g : _} (k : FieldOps F) (m : F → E) (gen : ℕ → Coordinates F) (h : ℕ)
     (points : List (OpeningPoint E g)) where
   -- a domain that is clear of each point, by their coordinates
-  pub clear-off :
-      All (λ p. IsClearOf g.ops m (domain_points k gen h) (coordinates p.point)) points →
+  pub clear-off : All (IsClear k m gen h) points →
       AreOffStandard k gen g.ops m h (coordinates_of points)
   clear-off clear = (
     All-map (IsFinite g.ops) (λ p. p.coordinate) points (λ i d lt. (slice_index_or points i d).finite),
@@ -43,7 +47,7 @@ module _ {F E : Type 0} {g : _} (k : FieldOps F) (m : F → E) (gen : ℕ → Co
   )
 
   pub off-clear : All (IsOffStandard k gen g.ops m h) (coordinates_of points) →
-      All (λ p. IsClearOf g.ops m (domain_points k gen h) (coordinates p.point)) points
+      All (IsClear k m gen h) points
   off-clear off = λ i d lt.
       subst (IsClearOf g.ops m (domain_points k gen h)) (sym (slice_index_or points i d).at)
       (All-unmap (IsOffStandard k gen g.ops m h) (λ p. p.coordinate) points off i d lt)

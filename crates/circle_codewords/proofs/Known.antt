@@ -21,16 +21,12 @@ use Rattle.circle_codewords.specs.declared.points.OpeningPoint.{OpeningPoint}
 use Rattle.circle_codewords.specs.declared.ratios.PointRatios.{PointRatios}
 
 module _ {X : Type 0} (P : X → Type 0) where
-  -- one of a list is one of a longer list, and so is the last
+  -- one of a list is one of a longer list
   pub any-kept : (xs : List X) (x : X) → Any P xs → Any P (xs ++ x ∷ [])
   any-kept [] x (i, d, lt, is, p) = absurd (omega (arith, lt))
   any-kept (y ∷ ys) x (zero, d, lt, is, p) = (0, d, omega arith, is, p)
   any-kept (y ∷ ys) x (suc i, d, lt, is, p) = let r =
       any-kept ys x (i, d, omega (arith, lt), is, p) in (suc r.0, r.1, omega (arith, r.2), r.3, r.4)
-
-  pub any-last : (xs : List X) (x : X) → P x → Any P (xs ++ x ∷ [])
-  any-last [] x p = (0, x, omega arith, refl, p)
-  any-last (y ∷ ys) x p = let r = any-last ys x p in (suc r.0, r.1, omega (arith, r.2), r.3, r.4)
 
 module _ {E : Type 0} where
   -- what is found is known

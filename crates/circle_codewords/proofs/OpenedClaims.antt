@@ -1,8 +1,8 @@
 -- The claims on a matrix that is opened, place by place.
-use Rattle.std.specs.Prelude.{◌≡◌, ℕ, ◌<◌, length, slice_index_or, Vec}
+use Rattle.std.specs.Prelude.{◌≡◌, ℕ, ◌<◌, ◌≤◌, take, length, slice_index_or, Vec}
 use Rattle.std.specs.declared.alloc.Global.{Global}
 use Rattle.std.proofs.Common.{sym, ◌∙◌, ap, arith}
-use Rattle.std.proofs.lemmas.List.{get_or-map, length-map}
+use Rattle.std.proofs.lemmas.List.{get_or-map, length-map, take_all}
 use Rattle.circle_commit.proofs.Written.{length-pairwise, pairwise-read}
 use Rattle.circle_commit.specs.RowMajorMatrix.{width_of}
 use Rattle.circle_relation.specs.Accepts.{Fields}
@@ -28,6 +28,10 @@ module _ {F E : Type 0} {over g : _} (k : Fields F E) (blowup : ℕ) (m : Opened
         length-pairwise (λ t v. claim_of t v.items) (coordinates_of m.points.now) m.values.now
         (sym counted)
         ∙ length-map m.points.now (λ p. p.coordinate)
+
+    pub claims-end : (i : ℕ) → length m.points.now ≤ i → take i (committed_of k blowup m).claims
+        ≡ (committed_of k blowup m).claims
+    claims-end i le = take_all i (committed_of k blowup m).claims (omega (arith, le, claims-count))
 
     -- the claim at a place
     pub claim-at : (i : ℕ) (p : OpeningPoint E g) (vs : Vec E Global) → i < length m.points.now →

@@ -1,16 +1,18 @@
 //! The reduced codewords: of each height, at every point of its domain, the quotients of all claims
 //! on matrices of that height (Circle STARKs, section 6).
-ghost use Rattle.std.specs.Prelude.{◌≡◌, ◌≢◌, ◌^◌, ◌<◌, ◌≤◌, length, map, All};
+ghost use Rattle.std.specs.Prelude.{◌≡◌, ◌≢◌, ◌^◌, ◌<◌, ◌≤◌, List, length, map, All};
 ghost use Rattle.std.specs.Prelude.{IsNone, IfSome, IfOk, OnOk};
 ghost use Rattle.std.specs.List.{Any};
 ghost use Rattle.circle_commit.specs.RowMajorMatrix.{width_of};
 ghost use Rattle.circle_commit.specs.DotProduct.{dot};
+ghost use Rattle.circle_field.specs.Circle.{Coordinates};
 ghost use Rattle.circle_field.specs.Field.{nth_power};
 ghost use Rattle.circle_folding.specs.Queries.{IsApart};
 ghost use Rattle.circle_folding.specs.Quotient.{ArePowers};
 ghost use Rattle.circle_point.specs.Point.{coordinates};
+ghost use Rattle.circle_point.specs.Projective.{from_line};
 ghost use Rattle.circle_codewords.specs.Ratios.{points_of_height, AreRatiosOf, HasRatios};
-ghost use Rattle.circle_codewords.specs.Ratios.{with_quotients};
+ghost use Rattle.circle_codewords.specs.Ratios.{vanishing_ratio, with_quotients};
 ghost use Rattle.circle_codewords.specs.OfMatrices.{AddsClaims, HaveRatios, word_at};
 
 use crate::matrix::{BatchedMatrices, OpenedMatrix};
@@ -72,6 +74,18 @@ fn ratios_at<'a, EF: Field>(all: &'a [PointRatios<EF>], point: EF) -> Option<&'a
         }
     }
     None
+}
+
+// The ratios of a point that has some.
+fn known_ratios<'a, F: Field, EF: ExtensionField<F>>(
+    all: &'a [PointRatios<EF>],
+    point: EF,
+) -> &'a [EF]
+    requires { HasRatios all.now point }
+    ensures { (points : List (Coordinates F)) → All (AreRatiosOf EF.ops EF.embed points) all.now →
+        result.now ≡ map (vanishing_ratio EF.ops EF.embed (from_line EF.ops point)) points }
+{
+    ratios_at(all, point).unwrap()
 }
 
 // Makes the ratios of a point, where it has none yet.
@@ -171,7 +185,7 @@ impl<F: ComplexExtendable, EF: ExtensionField<F>> BatchedMatrices<'_, F, EF> {
         for (i, point) in matrix.points.iter().enumerate() {
             let (claimed, power) = combined_claim(&matrix.values[i], powers);
             let half = after.halve();
-            let ratios = ratios_at(ratios, point.coordinate).unwrap();
+            let ratios = known_ratios::<F, EF>(ratios, point.coordinate);
             add_quotients(sums, half, half * power, ratios, &combined, claimed);
             after = after * power * power;
         }

@@ -1,11 +1,12 @@
 -- What is known of requests that can be opened, and of their matrices once their values are known.
 use Rattle.std.specs.Prelude.{◌≡◌, ◌+◌, ◌^◌, ◌<◌, ◌≤◌, List, length, map, flat_map, All, Vec}
-use Rattle.std.specs.Prelude.{slice_index_or}
+use Rattle.std.specs.Prelude.{slice_index_or, drop, take, vec_len, [], ◌++◌}
 use Rattle.std.specs.List.{AllZip}
 use Rattle.std.specs.declared.alloc.Global.{Global}
-use Rattle.std.proofs.Common.{ℕ, refl, sym, ap, ◌∙◌, subst, arith, get_or}
+use Rattle.std.proofs.Common.{ℕ, refl, sym, ap, ◌∙◌, subst, arith, get_or, append-nil}
+use Rattle.std.proofs.Common.{drop-drop}
 use Rattle.std.proofs.lemmas.List.{length-map}
-use Rattle.std.proofs.lemmas.Slice.Zip.{length-zip}
+use Rattle.std.proofs.lemmas.Slice.Zip.{AllZip-long, length-zip}
 use Rattle.circle_commit.specs.Mmcs.{greatest, opened_rows}
 use Rattle.circle_commit.specs.Pcs.{Openings, openings}
 use Rattle.circle_commit.specs.RowMajorMatrix.{height_of}
@@ -20,19 +21,29 @@ use Rattle.circle_transcript.specs.Draw.{Claim}
 use Rattle.circle_codewords.specs.Requests.{AreAnswers, AreHeights, IsFit, all_committed}
 use Rattle.circle_codewords.specs.Requests.{IsOpenable, lists_of, log_of, points_of}
 use Rattle.circle_codewords.specs.Words.{Committed, committed_of}
+use Rattle.circle_codewords.specs.declared.matrix.MatrixAtPoints.{MatrixAtPoints}
 use Rattle.circle_codewords.specs.declared.matrix.OpenedMatrix.{OpenedMatrix}
 use Rattle.circle_codewords.proofs.AtPoints.{All-unmap}
-use Rattle.circle_codewords.proofs.Zips.{zip-length, zip-second}
+use Rattle.circle_codewords.proofs.Zips.{zip-second}
 use Rattle.circle_prover.specs.OfRequests.{AreAnsweredBy, AreMatricesWith, AreOpenableAt}
-use Rattle.circle_prover.specs.OfRequests.{AreValued, asked_in, claims_with, seen_with}
+use Rattle.circle_prover.specs.OfRequests.{AreValued, asked_in, asked_of, claims_with, seen_with}
 use Rattle.circle_prover.specs.Words.{AreTall, top_of}
 use Rattle.circle_prover.specs.declared.openable.OpenableRequests.{OpenableRequests}
 use Rattle.circle_prover.proofs.Answered.{all-some, batch-heights, fit-known, heights-back}
 use Rattle.circle_prover.proofs.Answered.{heights-known}
 use Rattle.circle_prover.proofs.Asked.{all-taken, all-widths, top-claimed}
-use Rattle.circle_prover.proofs.Requested.{at-place, batch-valued, map-at, values-valued}
+use Rattle.circle_prover.proofs.Requested.{at-place, batch-valued, behind, fits, front, map-at}
+use Rattle.circle_prover.proofs.Requested.{values-valued}
 use Rattle.circle_prover.proofs.Seen.{top-seen}
 use Rattle.circle_prover.proofs.Tops.{matrices-low, top-known}
+
+-- matrices behind a place that is moved on
+pub divided : {F E : Type 0} {over g : _} (ms : List (MatrixAtPoints F E over g)) (done n b : ℕ)
+    (rest : List (MatrixAtPoints F E over g)) → b ≡ n → rest ≡ drop done ms →
+    map asked_of (drop (done + b) ms) ≡ map asked_of (drop n rest)
+divided ms done n b rest same is =
+    ap (map asked_of) (ap (λ m. drop (done + m) ms) same ∙ sym (drop-drop n done ms)
+    ∙ ap (drop n) (sym is))
 
 module _ {F E I W IC ID IP IE WC WD WP WE : Type 0} {over inputs ic ip ie words wc wp we : _}
     (o : OpenableRequests F E I W IC ID IP IE WC WD WP WE over inputs ic ip ie words wc wp we)
@@ -49,23 +60,13 @@ module _ {F E I W IC ID IP IE WC WD WP WE : Type 0} {over inputs ic ip ie words 
         (sym is) (o.openable.fit i r lt)))
 
     -- there is a list of points for each of its matrices, and each coordinate belongs to a point
-    pub request-lists : (i : ℕ) (r : OpeningRequest ID E) → i < length o.requests.now →
+    request-lists : (i : ℕ) (r : OpeningRequest ID E) → i < length o.requests.now →
         r ≡ get_or o.requests.now i r →
         length (inputs.matrices r.prover_data.now) ≡ length (points_of inputs.matrices r)
     request-lists i r lt is =
-        zip-length (IsOpenable over.fields over.fields.two_adicity o.params.now.log_blowup)
+        sym (AllZip-long (IsOpenable over.fields over.fields.two_adicity o.params.now.log_blowup)
         (inputs.matrices r.prover_data.now) (points_of inputs.matrices r)
-        (request-openable i r _ _ lt is refl refl)
-
-    pub request-count : (i : ℕ) (r : OpeningRequest ID E) → i < length o.requests.now →
-        r ≡ get_or o.requests.now i r → length (asked_in inputs.matrices r) ≡ length r.points.items
-    request-count i r lt is =
-        omega (
-          arith,
-          length-zip (inputs.matrices r.prover_data.now) (points_of inputs.matrices r),
-          request-lists i r lt is,
-          length-map r.points.items (λ v. v.items),
-        )
+        (request-openable i r _ _ lt is refl refl))
 
     pub request-finite : (i : ℕ) (r : OpeningRequest ID E) → i < length o.requests.now →
         r ≡ get_or o.requests.now i r →
@@ -100,6 +101,43 @@ module _ {F E I W IC ID IP IE WC WD WP WE : Type 0} {over inputs ic ip ie words 
         (map-at rows batches i b lt' is') in
         values-valued over.fields o.params.now.log_blowup (inputs.matrices r.prover_data.now)
         (points_of inputs.matrices r) (rows b) (request-lists i r lt is) answers.0 answers.1
+
+    -- matrices that are those of the requests from one on are divided behind its own, of which there
+    -- is one for each list of points
+    module _ {g : _} (rest : List (MatrixAtPoints F E over g)) (i n : ℕ) (r : OpeningRequest ID E)
+        (lt : i < length o.requests.now) (is : r ≡ get_or o.requests.now i r)
+        (count : n ≡ vec_len r.points)
+        (are : map asked_of rest ≡ flat_map (asked_in inputs.matrices) (drop i o.requests.now))
+      where
+        counted : n ≡ length (asked_in inputs.matrices r)
+        counted =
+            omega (
+              arith,
+              count,
+              r.points.ok.0,
+              length-zip (inputs.matrices r.prover_data.now) (points_of inputs.matrices r),
+              request-lists i r lt is,
+              length-map r.points.items (λ v. v.items),
+            )
+
+        whole : map asked_of rest
+            ≡ flat_map (asked_in inputs.matrices) (drop i o.requests.now) ++ []
+        whole = are ∙ sym (append-nil (flat_map (asked_in inputs.matrices) (drop i o.requests.now)))
+
+        pub batch-fits : n ≤ length rest
+        batch-fits = fits asked_of (asked_in inputs.matrices) rest o.requests.now i n r lt is counted
+            [] whole
+
+        pub batch-front : map asked_of (take n rest) ≡ asked_in inputs.matrices r
+        batch-front = front asked_of (asked_in inputs.matrices) rest o.requests.now i n r lt is
+            counted [] whole
+
+        pub batch-left : map asked_of (drop n rest)
+            ≡ flat_map (asked_in inputs.matrices) (drop (i + 1) o.requests.now)
+        batch-left =
+            behind asked_of (asked_in inputs.matrices) rest o.requests.now i n r lt is counted []
+            whole
+            ∙ append-nil (flat_map (asked_in inputs.matrices) (drop (i + 1) o.requests.now))
 
     module _ (values : Openings E) where
       -- each matrix leaves something to fold, and the group has a domain for it

@@ -14,6 +14,7 @@ use Rattle.circle_commit.specs.RowMajorMatrix.{rows, width_of, height_of}
 use Rattle.circle_commit.specs.declared.matrix.RowMajorMatrix.{RowMajorMatrix}
 use Rattle.circle_commit.specs.DotProduct.{pairwise}
 use Rattle.circle_relation.specs.Accepts.{Fields}
+use Rattle.circle_relation.specs.Statement.{PointClaim}
 use Rattle.circle_codewords.specs.Lifts.{read_rows}
 use Rattle.circle_codewords.specs.Values.{AreOff, AreOpened, CanBeOpened}
 use Rattle.circle_codewords.specs.Words.{Committed, claim_of, committed_of}
@@ -23,7 +24,13 @@ use Rattle.circle_codewords.specs.Points.{coordinates_of}
 use Rattle.circle_codewords.specs.Requests.{AreBatchValues, AreValuesOf, IsOpenable}
 use Rattle.circle_codewords.specs.Requests.{batch_committed, committed, lists_of, log_of}
 use Rattle.circle_codewords.proofs.Logs.{log_of-power}
-use Rattle.circle_codewords.proofs.Zips.{zip-push, zip-read}
+use Rattle.circle_codewords.proofs.Zips.{zip-read}
+pub use Rattle.circle_codewords.proofs.Zips.{pushed-more}
+
+-- the fields of matrices
+abbrev pub fields_at_all : {F E : Type 0} {over g : _} → List (MatrixAtPoints F E over g)
+    → Fields F E
+fields_at_all {over = over} matrices = over.fields
 
 module _ {A B : Type 0} where
   -- what an item becomes stands at its place
@@ -39,15 +46,6 @@ module _ {A B : Type 0} where
         subst (λ v. R v y) (sym is)
         (subst (R (slice_index_or xs i x)) (sym is') (zip-read R xs ys i x y all lt))
 
-    -- one more value that is pushed for one more item
-    pub pushed-more : (xs : List A) (i : ℕ) (x : A) (old : List B) (y : B) → i < length xs →
-        x ≡ slice_index_or xs i x → AllZip R (take i xs) old → R x y →
-        AllZip R (take (i + 1) xs) (old ++ y ∷ [])
-    pushed-more xs i x old y lt is so_far here =
-        subst (λ l. AllZip R l (old ++ y ∷ []))
-        (ap (λ z. take i xs ++ z ∷ []) is ∙ sym (take_more xs i x lt))
-        (zip-push R (take i xs) old x y so_far here)
-
   module _ (f : A → B) where
     -- after some items, one more that is pushed is what stands at the next place
     pub push-after : (first ys : List B) (i n : ℕ) (old new : List A) (x : A) → n ≡ i + 1 →
@@ -58,26 +56,6 @@ module _ {A B : Type 0} where
         ∙ append_assoc first (take i ys) (f x ∷ [])
         ∙ ap (λ l. first ++ l) (ap (λ y. take i ys ++ y ∷ []) is ∙ sym (take_more ys i (f x) lt))
         ∙ ap (λ a. first ++ take a ys) (sym next)
-
-    -- a list that begins, by what its items become, with another, is divided behind that
-    module _ (xs : List A) (n : ℕ) (first rest : List B) (count : n ≡ length first)
-        (are : map f xs ≡ first ++ rest) where
-      pub fits : n ≤ length xs
-      fits =
-          let all = ap length are in
-          omega (arith, count, all, length-map xs f, length-append first rest)
-
-      pub front : map f (take n xs) ≡ first
-      front =
-          sym (take-map f n xs) ∙ ap (take n) are ∙ ap (λ k. take k (first ++ rest)) count
-          ∙ take-append-le (length first) first rest (omega arith)
-          ∙ take_all (length first) first (omega arith)
-
-      pub behind : map f (drop n xs) ≡ rest
-      behind =
-          sym (drop-map f n xs) ∙ ap (drop n) are ∙ ap (λ k. drop k (first ++ rest)) count
-          ∙ drop-append-le (length first) first rest (omega arith)
-          ∙ ap (λ l. l ++ rest) (drop_all (length first) first (omega arith))
 
 module _ {A B C : Type 0} (f : A → B → C) where
   -- what two items become together stands at their place
@@ -136,13 +114,35 @@ module _ {A B : Type 0} (f : A → List B) (xs : List A) (i : ℕ) (x : A) (lt :
       ∙ ap (flat_map f) (ap (λ y. take i xs ++ y ∷ []) is ∙ sym (take_more xs i x lt)
       ∙ ap (λ a. take a xs) (sym next)))
 
-  -- what the items from one on give begins with what it gives
-  pub flat-front : (all tail : List B) → all ≡ flat_map f (drop i xs) ++ tail →
-      all ≡ f x ++ (flat_map f (drop (i + 1) xs) ++ tail)
-  flat-front all tail are =
-      are ∙ ap (λ ys. flat_map f ys ++ tail) (drop_more xs i x lt
-      ∙ ap (λ y. y ∷ drop (i + 1) xs) (sym is))
-      ∙ append_assoc (f x) (flat_map f (drop (i + 1) xs)) tail
+-- a list whose items become what those of another from a place on give, and more, is divided behind
+-- what the first of these gives
+module _ {A B C : Type 0} (f : A → B) (h : C → List B) (xs : List A) (ys : List C) (i n : ℕ) (y : C)
+    (lt : i < length ys) (is : y ≡ slice_index_or ys i y) (count : n ≡ length (h y))
+    (tail : List B) (are : map f xs ≡ flat_map h (drop i ys) ++ tail) where
+  abbrev others : List B
+  others = flat_map h (drop (i + 1) ys) ++ tail
+
+  begins : map f xs ≡ h y ++ others
+  begins =
+      are ∙ ap (λ zs. flat_map h zs ++ tail) (drop_more ys i y lt
+      ∙ ap (λ z. z ∷ drop (i + 1) ys) (sym is))
+      ∙ append_assoc (h y) (flat_map h (drop (i + 1) ys)) tail
+
+  pub fits : n ≤ length xs
+  fits = let all = ap length begins in
+      omega (arith, count, all, length-map xs f, length-append (h y) others)
+
+  pub front : map f (take n xs) ≡ h y
+  front =
+      sym (take-map f n xs) ∙ ap (take n) begins ∙ ap (λ k. take k (h y ++ others)) count
+      ∙ take-append-le (length (h y)) (h y) others (omega arith)
+      ∙ take_all (length (h y)) (h y) (omega arith)
+
+  pub behind : map f (drop n xs) ≡ others
+  behind =
+      sym (drop-map f n xs) ∙ ap (drop n) begins ∙ ap (λ k. drop k (h y ++ others)) count
+      ∙ drop-append-le (length (h y)) (h y) others (omega arith)
+      ∙ ap (λ l. l ++ others) (drop_all (length (h y)) (h y) (omega arith))
 
 module _ {F E : Type 0} (k : Fields F E) (blowup : ℕ) where
   -- a matrix of a batch and its points
@@ -198,7 +198,7 @@ module _ {F E : Type 0} (k : Fields F E) (blowup : ℕ) where
       ≡ committed k blowup o.rows.now (coordinates_of o.points.now) (lists_of o.values.now)
   committed-is o log =
       let ps = coordinates_of o.points.now in
-      let made = λ (h : ℕ) claims. record {
+      let made : ℕ → List (PointClaim E) → Committed F E = λ h claims. record {
         log_height = h;
         rows = read_rows k blowup h (width_of o.rows.now) (rows o.rows.now);
         claims = claims;

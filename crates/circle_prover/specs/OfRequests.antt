@@ -1,6 +1,6 @@
 -- Requests that can be opened, as clauses see them. The dictionaries of their fields and of their
 -- schemes are arguments of their type: the definitions of this page read them off the requests.
-use Rattle.std.specs.Prelude.{◌≡◌, ◌⊎◌, ◌<◌, ◌++◌, List, map, flat_map, zip, All, Result, Ok, Err}
+use Rattle.std.specs.Prelude.{◌≡◌, ℕ, ◌⊎◌, ◌<◌, ◌++◌, List, map, flat_map, zip, All, Result, Ok, Err}
 use Rattle.std.specs.Prelude.{MatchResult, Vec}
 use Rattle.std.specs.List.{AllZip}
 use Rattle.std.specs.declared.alloc.Global.{Global}
@@ -62,6 +62,12 @@ Leaves {A = A} first all rest = (tail : List A) → all ≡ first ++ tail → re
 abbrev pub asked_of : {F E : Type 0} {over g : _} → MatrixAtPoints F E over g
     → RowMajorMatrix F × List E
 asked_of m = (m.rows.now, coordinates_of m.points.now)
+
+-- these are the values of matrices at their points
+abbrev pub AreValuesOfEach : {F E : Type 0} {over g : _} → ℕ → List (MatrixAtPoints F E over g)
+    → List (List (List E)) → Type 0
+AreValuesOfEach {over = over} blowup matrices values =
+    AllZip (λ a v. AreValuesOf over.fields blowup a.0 a.1 v) (map asked_of matrices) values
 
 -- the matrices of a request with these; kept of what a committer keeps are the matrices
 abbrev pub asked_in : {D F E : Type 0} → (D → List (RowMajorMatrix F)) → OpeningRequest D E

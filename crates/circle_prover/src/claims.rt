@@ -66,11 +66,12 @@ impl<
             AreMatricesWith self.now (openings values.now) v.items) }
     {
         let mut list = Vec::with_capacity(alloc, matrices.len())?;
-        let mut rest = matrices;
+        let mut done = 0;
         for (request, values) in self.requests.iter().zip(values) {
-            let (batch, others) = rest.split_at(request.points.len());
+            let (_, rest) = matrices.split_at(done);
+            let (batch, _) = rest.split_at(request.points.len());
             self.push_opened(&mut list, batch, values)?;
-            rest = others;
+            done += batch.len();
         }
         Ok(list)
     }

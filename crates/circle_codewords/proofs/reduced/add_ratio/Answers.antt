@@ -5,7 +5,8 @@ use Rattle.std.proofs.lemmas.List.Elements.{All-same, All-push}
 use Rattle.circle_point.specs.Point.{coordinates}
 use Rattle.circle_codewords.specs.Ratios.{vanishing_ratio, AreRatiosOf}
 use Rattle.circle_codewords.specs.declared.ratios.PointRatios.{PointRatios}
-use Rattle.circle_codewords.proofs.Known.{any-kept, any-last, known-of}
+use Rattle.std.proofs.lemmas.List.Quantifiers.{Any-push}
+use Rattle.circle_codewords.proofs.Known.{any-kept, known-of}
 use Rattle.circle_codewords.proofs.reduced.add_ratio.Goals as goal
 
 pub returns-then-is_some-clause-known : goal.returns-then-is_some-clause-known
@@ -29,7 +30,7 @@ returns-clause-right g c =
 pub returns-clause-known : goal.returns-clause-known
 returns-clause-known g c =
     let Is : PointRatios g.row.EF.Denot → Type 0 = λ r. r.point ≡ c.args.point.coordinate in
-    subst (Any Is) (sym c.in_ok-push.ensures.items) (any-last Is c.args.all.now.items _ refl)
+    subst (Any Is) (sym c.in_ok-push.ensures.items) (Any-push Is c.args.all.now.items _ refl)
 
 pub returns-clause-kept : goal.returns-clause-kept
 returns-clause-kept g c = λ t known.

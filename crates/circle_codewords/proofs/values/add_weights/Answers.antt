@@ -8,7 +8,8 @@ use Rattle.circle_domain.specs.Lagrange.{AreLagrangeWeights}
 use Rattle.circle_domain.specs.Order.{IsGenuine, natural_order, cfft_order}
 use Rattle.circle_codewords.specs.OfMatrices.{IsFor}
 use Rattle.circle_codewords.specs.declared.matrix.PointWeights.{PointWeights}
-use Rattle.circle_codewords.proofs.Known.{any-kept, any-last, of-some}
+use Rattle.std.proofs.lemmas.List.Quantifiers.{Any-push}
+use Rattle.circle_codewords.proofs.Known.{any-kept, of-some}
 use Rattle.circle_codewords.proofs.Prefix.{first-genuine, first-clear}
 use Rattle.circle_codewords.proofs.values.add_weights.Goals as goal
 
@@ -80,7 +81,7 @@ pub returns-clause-known : goal.returns-clause-known
 returns-clause-known g c =
     let Is = IsFor c.args.log_blowup c.args.log_height c.args.point.coordinate in
     subst (Any Is) (sym c.in_ok-push.ensures.items)
-    (any-last Is c.args.all.now.items _ (refl, refl, refl))
+    (Any-push Is c.args.all.now.items _ (refl, refl, refl))
 
 pub returns-clause-kept : goal.returns-clause-kept
 returns-clause-kept g c = λ t known.

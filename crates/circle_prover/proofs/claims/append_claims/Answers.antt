@@ -1,4 +1,4 @@
-use Rattle.std.proofs.Common.{◌≡◌, ◌++◌, ◌∙◌, length, map, sym, ap, arith, slice_index_or}
+use Rattle.std.proofs.Common.{◌≡◌, ◌<◌, ◌++◌, ◌∙◌, length, map, sym, ap, arith, slice_index_or}
 use Rattle.std.proofs.lemmas.List.{length_push, length-map, take_all}
 use Rattle.std.proofs.lemmas.Slice.Zip.{zip_turn, zip_end}
 use Rattle.circle_commit.specs.DotProduct.{pairwise}
@@ -29,9 +29,9 @@ loop-point-preserved g c =
     let coordinate = λ (p : OpeningPoint g.row.EF.Denot _). p.coordinate in
     let here = pairwise claim_of (coordinates_of points) (lists_of vectors) in
     let all = map (point_taken l) here in
-    let inside = omega (arith, turn.0, length-map points coordinate) in
-    let inside' = omega (arith, turn.1, length-map vectors (λ v. v.items)) in
-    let within = omega (arith, inside, inside', pairwise-long claim_of (coordinates_of points)
+    let inside : i < length (coordinates_of points) = omega (arith, turn.0, length-map points coordinate) in
+    let inside' : i < length (lists_of vectors) = omega (arith, turn.1, length-map vectors (λ v. v.items)) in
+    let within : i < length here = omega (arith, inside, inside', pairwise-long claim_of (coordinates_of points)
     (lists_of vectors)) in
     let made = ap (λ q. claim q c.deref.result.now) p.at
     ∙ ap (claim (from_line l p.coordinate)) c.deref.ensures.value in

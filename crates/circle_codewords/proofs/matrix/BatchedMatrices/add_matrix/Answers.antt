@@ -16,39 +16,36 @@ use Rattle.circle_relation.specs.Sums.{Adds}
 use Rattle.circle_relation.proofs.ReducedSums.{adds-none}
 use Rattle.circle_codewords.specs.Lifts.{read_rows}
 use Rattle.circle_codewords.specs.OfMatrices.{fields_of}
-use Rattle.circle_codewords.specs.Ratios.{points_of_height, vanishing_ratio, with_quotients}
+use Rattle.circle_codewords.specs.Ratios.{HasRatios, points_of_height, vanishing_ratio}
+use Rattle.circle_codewords.specs.Ratios.{with_quotients}
 use Rattle.circle_codewords.specs.Words.{committed_of, claim_of}
 use Rattle.circle_codewords.specs.declared.points.OpeningPoint.{OpeningPoint}
 use Rattle.circle_codewords.specs.declared.ratios.PointRatios.{PointRatios}
 use Rattle.circle_codewords.proofs.Added.{claim-adds, count-points, count-read}
 use Rattle.circle_codewords.proofs.Claims.{claim-after, claims_among}
 use Rattle.circle_codewords.proofs.Known.{right-of}
-use Rattle.circle_codewords.proofs.OpenedClaims.{claim-at, claims-count, valued-at}
+use Rattle.circle_codewords.proofs.OpenedClaims.{claim-at, claims-count, claims-end, valued-at}
 use Rattle.circle_codewords.proofs.AtPoints.{off-points}
 use Rattle.circle_codewords.proofs.matrix.BatchedMatrices.add_matrix.Goals as goal
 
-pub unwrap-ratios-requires : goal.unwrap-ratios-requires
-unwrap-ratios-requires g c =
-    some_unless c.ratios_at.result (λ none.
-    let known = c.requires.known c.loop-i.i c.point-item.result c.loop-i-test.true in
-    c.ratios_at.ensures.none none known.0 known.1 known.2
-    (ap (λ (r : PointRatios g.row.EF.Denot). r.point) known.3 ∙ known.4
-    ∙ sym (ap (λ (p : OpeningPoint g.row.EF.Denot _). p.coordinate) c.point-item.is)))
+pub known_ratios-ratios-requires : goal.known_ratios-ratios-requires
+known_ratios-ratios-requires g c =
+    subst (λ (p : OpeningPoint g.row.EF.Denot _). HasRatios c.args.ratios.now p.coordinate)
+    (sym c.point-item.is)
+    (c.requires.known c.loop-i.i c.point-item.result c.loop-i-test.true)
 
 pub returns-then-is_empty : goal.returns-then-is_empty
 returns-then-is_empty g c =
     let k = fields_of c.args.self.now in
+    let alpha = c.args.self.now.alpha in
     let matrix = c.args.matrix.now in
     let ms = committed_of k c.args.self.now.log_blowup matrix in
     let points = points_of_height k.field k.gen matrix.log_height in
-    let none : length matrix.points.now ≡ 0 =
-    eqb-true (length matrix.points.now) 0 (sym c.if-is_empty.ensures) in
-    let unclaimed : [] ≡ ms.claims = take_all 0 ms.claims
-    (omega (arith, none, claims-count k c.args.self.now.log_blowup matrix)) in
-    subst (λ cs. Adds k.extension k.embed c.args.self.now.alpha points (origin k.field)
-    (claims_among ms cs) c.args.offset c.args.offset c.args.sums.now c.args.sums.now) unclaimed
-    (adds-none k.extension k.embed c.args.self.now.alpha points (origin k.field) c.args.offset
-    c.args.sums.now)
+    let none = eqb-true (length matrix.points.now) 0 (sym c.if-is_empty.ensures) in
+    subst (λ cs. Adds k.extension k.embed alpha points (origin k.field) (claims_among ms cs)
+    c.args.offset c.args.offset c.args.sums.now c.args.sums.now)
+    (claims-end k c.args.self.now.log_blowup matrix 0 (omega (arith, none)))
+    (adds-none k.extension k.embed alpha points (origin k.field) c.args.offset c.args.sums.now)
 
 pub combined_claim-claimed-requires : goal.combined_claim-claimed-requires
 combined_claim-claimed-requires g c =
@@ -67,14 +64,7 @@ add_quotients-requires-clause-ratios g c =
     let matrix = c.args.matrix.now in
     let t = c.point-item.result.coordinate in
     let points = points_of_height k.field k.gen matrix.log_height in
-    let found =
-    subst
-    (λ o. IfSome o
-    (λ f. Any (λ r. (r.point ≡ t) × (r.ratios.items ≡ f.now)) c.args.ratios.now))
-    c.unwrap-ratios.ensures c.ratios_at.ensures.some in
-    ap length
-    (right-of k.extension k.embed points c.args.ratios.now t c.unwrap-ratios.result.now
-    c.requires.right found)
+    ap length (c.known_ratios-ratios.ensures points c.requires.right)
     ∙ length-map points (vanishing_ratio k.extension k.embed (from_line k.extension t))
     ∙ count-points k g.F.Operations.laws g.met.F.ComplexExtendable.generators_law
     c.args.self.now.log_blowup matrix.log_height matrix.rows.now matrix.openable.positive
@@ -130,11 +120,6 @@ loop-i-preserved g c =
     (subst Apart (sym c.point-item.is)
     (off-points k.field k.embed k.gen h matrix.points.now laws embedding gens positive (omega (arith, top))
     matrix.openable.off.1 i p within)) in
-    let found =
-    subst
-    (λ o. IfSome o
-    (λ f. Any (λ r. (r.point ≡ t) × (r.ratios.items ≡ f.now)) c.args.ratios.now))
-    c.unwrap-ratios.ensures c.ratios_at.ensures.some in
     let are : ArePowers l b.alpha powers =
     subst (ArePowers l b.alpha) (sym c.as_slice-powers.ensures.value) b.are_powers in
     let claims : c.deref.result.now ≡ vs.items = c.deref.ensures.value
@@ -144,19 +129,18 @@ loop-i-preserved g c =
     let mul = g.met.EF.Field.mul_law in
     let step = claim-adds k laws gens b.log_blowup h matrix.rows.now positive matrix.openable.rows
     g.EF.Operations.laws g.met.EF.Field.eq_law embedding top b.alpha t powers vs.items
-    c.unwrap-ratios.result.now c.deref-in-loop-i.result.now c.loop-i.sums
+    c.known_ratios-ratios.result.now c.deref-in-loop-i.result.now c.loop-i.sums
     c.add_quotients.new.sums c.loop-i.after c.halve-half.result power
     c.combined_claim-claimed.result.0 are wide (omega (arith, enough))
     (subst (IsOnCircle l) p.at p.point.on_circle) apart c.halve-half.ensures is_power
     (c.combined_claim-claimed.ensures.claimed ∙ ap (dot l powers) claims)
-    (right-of l k.embed points c.args.ratios.now t c.unwrap-ratios.result.now c.requires.right
-    found)
+    (c.known_ratios-ratios.ensures points c.requires.right)
     (c.deref-in-loop-i.ensures.value ∙ c.in_ok-combined.ensures)
     (c.loop-i.invariant.counted ∙ c.requires.size)
     (c.add_quotients.ensures
     ∙ ap
     (λ top. with_quotients l c.halve-half.result top c.combined_claim-claimed.result.0
-    c.unwrap-ratios.result.now c.deref-in-loop-i.result.now c.loop-i.sums)
+    c.known_ratios-ratios.result.now c.deref-in-loop-i.result.now c.loop-i.sums)
     (mul _ _ _ c.mul.ensures)) in
     let after : c.mul-after.result ≡ l.mul (l.mul c.loop-i.after power) power =
     mul _ _ _ c.mul-after.ensures ∙ ap (λ o. l.mul o power) (mul _ _ _ c.mul-in-loop-i.ensures) in
@@ -176,8 +160,8 @@ returns g c =
     let k = fields_of c.args.self.now in
     let matrix = c.args.matrix.now in
     let ms = committed_of k c.args.self.now.log_blowup matrix in
-    let whole : take c.loop-i.i ms.claims ≡ ms.claims = take_all c.loop-i.i ms.claims
-    (omega (arith, c.loop-i-test.false, claims-count k c.args.self.now.log_blowup matrix)) in
     subst (λ cs. Adds k.extension k.embed c.args.self.now.alpha
     (points_of_height k.field k.gen matrix.log_height) (origin k.field) (claims_among ms cs)
-    c.args.offset c.loop-i.after c.args.sums.now c.loop-i.sums) whole c.loop-i.invariant
+    c.args.offset c.loop-i.after c.args.sums.now c.loop-i.sums)
+    (claims-end k c.args.self.now.log_blowup matrix c.loop-i.i c.loop-i-test.false)
+    c.loop-i.invariant

@@ -2,6 +2,7 @@ use Rattle.std.proofs.Common.{◌≡◌, ◌≤◌, ◌-◌, ◌+◌, ◌*◌, �
 use Rattle.std.proofs.Common.{length, map, take, List}
 use Rattle.std.specs.Borrow.{Bor}
 use Rattle.std.proofs.lemmas.List.{length-map, length-take-le}
+use Rattle.std.proofs.lemmas.Slice.Zip.{AllZip-long}
 use Rattle.circle_field.specs.Circle.{Coordinates}
 use Rattle.circle_commit.specs.RowMajorMatrix.{rows, length-rows}
 use Rattle.circle_commit.specs.RowMajorMatrixView.{rows as view_rows}
@@ -19,7 +20,7 @@ use Rattle.circle_codewords.specs.declared.points.OpeningPoint.{OpeningPoint}
 use Rattle.circle_codewords.proofs.Opened.{if_ok, counted, opens}
 use Rattle.circle_codewords.proofs.AtPoints.{AllZip-onto}
 use Rattle.circle_codewords.proofs.Prefix.{first-genuine}
-use Rattle.circle_codewords.proofs.Zips.{zip-length, zip-read, zip-second, zip-through}
+use Rattle.circle_codewords.proofs.Zips.{zip-read, zip-second, zip-through}
 use Rattle.circle_domain.specs.declared.lagrange.LagrangeWeights.{LagrangeWeights}
 use Rattle.circle_codewords.proofs.matrix.MatrixAtPoints.values_by_weights.Goals as goal
 
@@ -84,13 +85,11 @@ returns-clause-count g c =
     let given = c.from_cfft_order.result.values in
     if_ok c.evaluate_by_each_weights.result _ _ (λ made all.
     sym (length-map made.items (λ v. v.items))
-    ∙ sym
-    (zip-length (λ w. AreValuesBy g.F.Operations.ops g.F.ComplexExtendable.generators
+    ∙ AllZip-long (λ w. AreValuesBy g.F.Operations.ops g.F.ComplexExtendable.generators
     g.EF.Operations.ops g.EF.ExtensionField.embed d given.width (view_rows given) w.now)
-    c.args.weights.now (map (λ v. v.items) made.items) all)
-    ∙ sym
-    (zip-length (AreWeightsFor c.args.self.now c.args.log_blowup) c.args.self.now.points.now
-    c.args.weights.now c.requires.right))
+    c.args.weights.now (map (λ v. v.items) made.items) all
+    ∙ AllZip-long (AreWeightsFor c.args.self.now c.args.log_blowup) c.args.self.now.points.now
+    c.args.weights.now c.requires.right)
     c.evaluate_by_each_weights.ensures.values
 
 pub returns-clause-values : goal.returns-clause-values

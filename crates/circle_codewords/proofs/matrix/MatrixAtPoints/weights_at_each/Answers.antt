@@ -1,13 +1,13 @@
-use Rattle.std.proofs.Common.{◌++◌, [], ◌∷◌, ◌∙◌, refl, sym, ap, subst, arith, take}
+use Rattle.std.proofs.Common.{◌+◌, ◌∙◌, refl, sym, ap, subst, arith, take}
 use Rattle.std.specs.Prelude.{IfSome}
 use Rattle.std.specs.List.{AllZip}
-use Rattle.std.proofs.lemmas.List.{take_all, take_more}
+use Rattle.std.proofs.lemmas.List.{take_all}
 use Rattle.circle_field.proofs.Inverses.{some_unless}
 use Rattle.circle_codewords.specs.OfMatrices.{AreWeightsFor, IsFor}
 use Rattle.circle_codewords.specs.declared.matrix.PointWeights.{PointWeights}
 use Rattle.circle_codewords.specs.declared.points.OpeningPoint.{OpeningPoint}
 use Rattle.circle_codewords.proofs.Known.{weights-for}
-use Rattle.circle_codewords.proofs.Zips.{zip-pushed}
+use Rattle.circle_codewords.proofs.Zips.{pushed-more}
 use Rattle.circle_codewords.proofs.matrix.MatrixAtPoints.weights_at_each.Goals as goal
 
 pub unwrap-known-requires : goal.unwrap-known-requires
@@ -31,11 +31,9 @@ loop-point-preserved g c =
     let found =
     subst (λ o. IfSome o (λ f. IsFor c.args.log_blowup c.args.self.now.log_height p.coordinate f.now))
     c.unwrap-known.ensures c.weights_at.ensures.some in
-    subst (λ ts. AllZip Is ts c.push.new.self.items) (ap (λ q. take i points ++ q ∷ [])
-    c.point-item.is
-    ∙ sym (take_more points i p c.loop-point-test.true))
-    (zip-pushed Is (take i points) c.loop-point.lent.items c.push.new.self.items p _
-    c.in_ok-push.ensures.items c.loop-point.invariant
+    subst (AllZip Is (take (i + 1) points)) (sym c.in_ok-push.ensures.items)
+    (pushed-more Is points i p c.loop-point.lent.items _ c.loop-point-test.true c.point-item.is
+    c.loop-point.invariant
     (weights-for c.args.self.now c.args.log_blowup p w.now _ found refl))
 
 pub returns : goal.returns

@@ -1,4 +1,4 @@
-use Rattle.std.proofs.Common.{◌≡◌, drop, flat_map, length, map, take}
+use Rattle.std.proofs.Common.{◌≡◌, ◌≤◌, drop, flat_map, length, map, take}
 use Rattle.circle_commit.specs.Pcs.{openings}
 use Rattle.circle_codewords.specs.Requests.{all_committed}
 use Rattle.circle_codewords.specs.Words.{committed_of}
@@ -16,5 +16,7 @@ invariant-loop-request g l =
       list : map (committed_of k b) l.list.items
           ≡ flat_map (λ b. b)
           (take i (all_committed kept k b l.self.requests.now (openings l.values)));
-      rest : map asked_of l.rest ≡ flat_map (asked_in kept) (drop i l.self.requests.now);
+      within : l.done ≤ length l.matrices;
+      left : map asked_of (drop l.done l.matrices)
+          ≡ flat_map (asked_in kept) (drop i l.self.requests.now);
     }

@@ -1,19 +1,18 @@
 use Rattle.std.proofs.Common.{◌≡◌, ◌+◌, ◌++◌, ◌∙◌, ◌<◌, drop, flat_map, length, map}
-use Rattle.std.proofs.Common.{refl, sym, ap, subst, arith, slice_index_or}
+use Rattle.std.proofs.Common.{sym, ap, arith, slice_index_or}
 use Rattle.std.specs.Prelude.{zip}
 use Rattle.std.proofs.lemmas.List.{drop_all, length_push, length-map, take_all}
 use Rattle.std.proofs.lemmas.List.Elements.{All-push, All-same}
-use Rattle.std.proofs.lemmas.Slice.Zip.{length-zip, zip_turn, zip_end}
+use Rattle.std.proofs.lemmas.Slice.Zip.{AllZip-long, length-zip, zip_turn, zip_end}
 use Rattle.circle_commit.specs.RowMajorMatrix.{height_of}
 use Rattle.circle_relation.proofs.Pairs.{pair-sources}
 use Rattle.circle_codewords.specs.Points.{coordinates_of}
 use Rattle.circle_codewords.specs.Requests.{IsOpenable, lists_of, log_of}
 use Rattle.circle_codewords.specs.declared.matrix.MatrixAtPoints.{MatrixAtPoints}
 use Rattle.circle_codewords.specs.declared.points.OpeningPoint.{OpeningPoint}
-use Rattle.circle_codewords.proofs.Zips.{zip-length}
 use Rattle.circle_prover.specs.OfRequests.{asked_of, fields_of}
 use Rattle.circle_prover.proofs.RequestLists.{pair-at, pairs-within}
-use Rattle.circle_prover.proofs.Requested.{behind, can-open, fits, flat-front, front, map-at}
+use Rattle.circle_prover.proofs.Requested.{behind, can-open, fits, front, map-at}
 use Rattle.circle_prover.proofs.Requested.{openable-at, push-after}
 use Rattle.circle_prover.proofs.openable.OpenableRequests.push_matrices.Goals as goal
 
@@ -45,12 +44,11 @@ split_at-requires g c =
     c.loop-matrix.yielded_by _ c.in-Some.is c.next.ensures.steps in
     let m = c.in-Some.matrix.now in
     let v = c.in-Some.asked.now in
-    let coordinate = λ (p : OpeningPoint g.row.EF.Denot _). p.coordinate in
     let count : c.len.result ≡ length v.items = omega (arith, c.len.ensures, v.ok.0) in
-    let are = flat-front (λ v. v.items) coords i v turn.1 (turn.3 v)
-    (coordinates_of c.loop-matrix.rest.now) c.requires.front.0
-    (c.loop-matrix.invariant.rest c.requires.front.0 c.requires.front.1) in
-    fits coordinate c.loop-matrix.rest.now c.len.result v.items _ count are
+    let before = c.requires.front in
+    fits (λ (p : OpeningPoint g.row.EF.Denot _). p.coordinate) (λ v. v.items) c.loop-matrix.rest.now coords
+    i c.len.result v turn.1 (turn.3 v) count before.0
+    (c.loop-matrix.invariant.rest before.0 before.1)
 
 pub invariant_of-push : goal.invariant_of-push
 invariant_of-push g c =
@@ -66,16 +64,15 @@ invariant_of-push g c =
     let v = c.in-Some.asked.now in
     let can = openable-at (fields_of o) o.params.now.log_blowup (fields_of o).two_adicity ms coords i
     m v c.requires.fit turn.0 turn.1 (turn.2 m) (turn.3 v) in
-    let coordinate = λ (p : OpeningPoint g.row.EF.Denot _). p.coordinate in
     let count : c.len.result ≡ length v.items = omega (arith, c.len.ensures, v.ok.0) in
-    let are = flat-front (λ v. v.items) coords i v turn.1 (turn.3 v)
-    (coordinates_of c.loop-matrix.rest.now) c.requires.front.0
-    (c.loop-matrix.invariant.rest c.requires.front.0 c.requires.front.1) in
+    let before = c.requires.front in
     let log : c.log2_strict.result ≡ log_of (height_of m) =
     c.log2_strict.ensures.only (log_of (height_of m)) (c.height.ensures ∙ can.power) in
     let here : coordinates_of c.split_at.result.0.now ≡ v.items =
     ap coordinates_of c.split_at.ensures.front
-    ∙ front coordinate c.loop-matrix.rest.now c.len.result v.items _ count are in
+    ∙ front (λ (p : OpeningPoint g.row.EF.Denot _). p.coordinate) (λ v. v.items) c.loop-matrix.rest.now coords
+    i c.len.result v turn.1 (turn.3 v) count before.0
+    (c.loop-matrix.invariant.rest before.0 before.1) in
     record {
       openable = can-open (fields_of o) o.params.now.log_blowup c.log2_strict.result m v.items
           (coordinates_of c.split_at.result.0.now) log here can;
@@ -95,21 +92,20 @@ loop-matrix-preserved g c =
     let v = c.in-Some.asked.now in
     let can = openable-at (fields_of o) o.params.now.log_blowup (fields_of o).two_adicity ms coords i
     m v c.requires.fit turn.0 turn.1 (turn.2 m) (turn.3 v) in
-    let coordinate = λ (p : OpeningPoint g.row.EF.Denot _). p.coordinate in
     let count : c.len.result ≡ length v.items = omega (arith, c.len.ensures, v.ok.0) in
-    let are = flat-front (λ v. v.items) coords i v turn.1 (turn.3 v)
-    (coordinates_of c.loop-matrix.rest.now) c.requires.front.0
-    (c.loop-matrix.invariant.rest c.requires.front.0 c.requires.front.1) in
+    let before = c.requires.front in
     let log : c.log2_strict.result ≡ log_of (height_of m) =
     c.log2_strict.ensures.only (log_of (height_of m)) (c.height.ensures ∙ can.power) in
     let here : coordinates_of c.split_at.result.0.now ≡ v.items =
     ap coordinates_of c.split_at.ensures.front
-    ∙ front coordinate c.loop-matrix.rest.now c.len.result v.items _ count are in
+    ∙ front (λ (p : OpeningPoint g.row.EF.Denot _). p.coordinate) (λ v. v.items) c.loop-matrix.rest.now coords
+    i c.len.result v turn.1 (turn.3 v) count before.0
+    (c.loop-matrix.invariant.rest before.0 before.1) in
     let lists = lists_of coords in
     let asked = zip ms lists in
     let next = length_push c.loop-matrix.yielded (c.in-Some.matrix, c.in-Some.asked) in
     let listed : i < length lists = omega (arith, turn.1, length-map coords (λ v. v.items)) in
-    let IsHigh : MatrixAtPoints g.row.Val.Denot g.row.EF.Denot _ _ → Type 0 =
+    let IsHigh : MatrixAtPoints g.row.Val.Denot g.row.EF.Denot _ g.EF.Operations → Type 0 =
     λ m. o.params.now.log_blowup < m.log_height in
     record {
       list = push-after asked_of (map asked_of c.args.list.now.items) asked i _
@@ -124,10 +120,9 @@ loop-matrix-preserved g c =
           (All-push IsHigh c.loop-matrix.list.items _ (c.loop-matrix.invariant.high before)
           (omega (arith, log, can.blowup)));
       rest = λ tail begins. ap coordinates_of c.split_at.ensures.back
-          ∙ behind coordinate c.loop-matrix.rest.now c.len.result v.items _ count
-          (flat-front (λ v. v.items) coords i v turn.1 (turn.3 v)
-          (coordinates_of c.loop-matrix.rest.now) tail
-          (c.loop-matrix.invariant.rest tail begins))
+          ∙ behind (λ (p : OpeningPoint g.row.EF.Denot _). p.coordinate) (λ v. v.items)
+          c.loop-matrix.rest.now coords i c.len.result v turn.1 (turn.3 v) count tail
+          (c.loop-matrix.invariant.rest tail begins)
           ∙ ap (λ a. flat_map (λ v. v.items) (drop a coords) ++ tail) (sym next);
     }
 
@@ -141,7 +136,9 @@ returns g c =
     let last = zip_end ms coords c.loop-matrix.yielded _ _ c.next.new.self _ from.0 from.1
     c.loop-matrix.yielded_by c.in-None.is c.next.ensures.steps in
     let lists = lists_of coords in
-    let long = zip-length (IsOpenable (fields_of c.args.self.now) _ _) ms lists c.requires.fit in
+    let k = fields_of c.args.self.now in
+    let long = AllZip-long (IsOpenable k k.two_adicity c.args.self.now.params.now.log_blowup) ms lists
+    c.requires.fit in
     let count = length-map coords (λ v. v.items) in
     record {
       list = c.loop-matrix.invariant.list

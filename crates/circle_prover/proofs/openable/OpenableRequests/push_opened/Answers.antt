@@ -1,4 +1,4 @@
-use Rattle.std.proofs.Common.{◌++◌, ◌∙◌, List, Vec, Global, length, map, refl, sym, ap, subst, arith}
+use Rattle.std.proofs.Common.{◌≡◌, ◌<◌, ◌++◌, ◌∙◌, List, Vec, Global, length, map, refl, sym, ap, subst, arith}
 use Rattle.std.proofs.Common.{All, slice_index_or}
 use Rattle.std.proofs.lemmas.List.{length_push, length-map, take_all}
 use Rattle.std.proofs.lemmas.Slice.Zip.{zip_turn, zip_end}
@@ -61,8 +61,8 @@ loop-matrix-preserved g c =
     let C = λ (a : RowMajorMatrix g.row.Val.Denot × List g.row.EF.Denot)
     (w : List (List g.row.EF.Denot)). committed k b a.0 a.1 w in
     let all = pairwise C (map asked_of ms) (opened_rows vs) in
-    let inside = omega (arith, turn.0, length-map ms asked_of) in
-    let inside' = omega (arith, turn.1, length-map vs rows) in
+    let inside : i < length (map asked_of ms) = omega (arith, turn.0, length-map ms asked_of) in
+    let inside' : i < length (opened_rows vs) = omega (arith, turn.1, length-map vs rows) in
     let made = committed-is k b _ (log-is k b g.met.Val.ComplexExtendable.at_most_62 m.log_height
     m.rows.now (coordinates_of m.points.now) m.openable)
     ∙ ap (λ ws. C (asked_of m) (lists_of ws)) c.deref.ensures.value in
