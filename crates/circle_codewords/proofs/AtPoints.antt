@@ -40,7 +40,8 @@ module _ {F E : Type 0} {g : _} (k : FieldOps F) (m : F → E) (gen : ℕ → Co
   pub clear-off : All (IsClear k m gen h) points →
       AreOffStandard k gen g.ops m h (coordinates_of points)
   clear-off clear = (
-    All-map (IsFinite g.ops) (λ p. p.coordinate) points (λ i d lt. (slice_index_or points i d).finite),
+    All-map (IsFinite g.ops) (λ p. p.coordinate) points
+        (λ i d lt. (slice_index_or points i d).finite),
     All-map (IsOffStandard k gen g.ops m h) (λ p. p.coordinate) points (λ i d lt.
         subst (IsClearOf g.ops m (domain_points k gen h)) (slice_index_or points i d).at
         (clear i d lt)),

@@ -111,8 +111,8 @@ module _ {F E : Type 0} {over g : _} (k : Fields F E) (matrices : List (OpenedMa
   layers_of alpha heights = map (opened_rows alpha) heights
 
 -- to sums over the points of its height, what the claims on a matrix that is opened add
-abbrev pub AddsClaims : {F E : Type 0} {over g : _} → Fields F E → ℕ → OpenedMatrix F E over g → E → E
-    → E → List E → List E → Type 0
+abbrev pub AddsClaims : {F E : Type 0} {over g : _} → Fields F E → ℕ → OpenedMatrix F E over g → E
+    → E → E → List E → List E → Type 0
 AddsClaims k blowup m alpha =
     Adds k.extension k.embed alpha (points_of_height k.field k.gen m.log_height) (origin k.field)
     (claims_on (committed_of k blowup m))

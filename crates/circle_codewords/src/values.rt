@@ -55,8 +55,9 @@ fn is_off_domain<F: ComplexExtendable, EF: ExtensionField<F>>(log_height: usize,
     }
 }
 
-/// Whether the points, each by its coordinate, are not at infinity, and the domain of `2^log_height` committed rows is clear
-/// of each, as an opening there requires; then none is a point of that domain.
+/// Whether the points, each by its coordinate, are not at infinity, and the domain of
+/// `2^log_height` committed rows is clear of each, as an opening there requires; then none is a
+/// point of that domain.
 ///
 /// Requires `1 <= log_height < CIRCLE_TWO_ADICITY`. Takes no memory.
 pub fn are_off_domain<F: ComplexExtendable, EF: ExtensionField<F>>(

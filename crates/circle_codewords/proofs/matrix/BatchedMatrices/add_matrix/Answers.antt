@@ -115,17 +115,19 @@ loop-i-preserved g c =
     let enough : length vs.items < length powers =
     omega (arith, wide, c.requires.enough, ap length c.as_slice-powers.ensures.value) in
     let top = matrix.openable.in_group in
-    let Apart = λ (q : OpeningPoint g.row.EF.Denot _). IsApart k.embed points (coordinates q.point) in
+    let Apart = λ (q : OpeningPoint g.row.EF.Denot _).
+    IsApart k.embed points (coordinates q.point) in
     let apart = subst (IsApart k.embed points) p.at
     (subst Apart (sym c.point-item.is)
-    (off-points k.field k.embed k.gen h matrix.points.now laws embedding gens positive (omega (arith, top))
-    matrix.openable.off.1 i p within)) in
+    (off-points k.field k.embed k.gen h matrix.points.now laws embedding gens positive
+    (omega (arith, top)) matrix.openable.off.1 i p within)) in
     let are : ArePowers l b.alpha powers =
     subst (ArePowers l b.alpha) (sym c.as_slice-powers.ensures.value) b.are_powers in
     let claims : c.deref.result.now ≡ vs.items = c.deref.ensures.value
     ∙ ap (λ v. v.items) (sym c.index-matrix-i.is) in
     let is_power : power ≡ nth_power l b.alpha (length vs.items) =
-    c.combined_claim-claimed.ensures.power b.alpha are ∙ ap (λ ws. nth_power l b.alpha (length ws)) claims in
+    c.combined_claim-claimed.ensures.power b.alpha are
+    ∙ ap (λ ws. nth_power l b.alpha (length ws)) claims in
     let mul = g.met.EF.Field.mul_law in
     let step = claim-adds k laws gens b.log_blowup h matrix.rows.now positive matrix.openable.rows
     g.EF.Operations.laws g.met.EF.Field.eq_law embedding top b.alpha t powers vs.items

@@ -124,8 +124,8 @@ returns-clause-values g c =
     let weighed : Sum (log_size d) (shift_of d) =
     subst (λ a. Sum a (shift_of d)) (sym size) (subst (Sum n) (sym shift) are.sum) in
     let at = by q weighed in
-    opens k c.args.log_blowup h m (coordinate p) found (log_size d) (shift_of d) _ _ at.coeffs size shift
-    (ap (λ v. v.width) c.from_cfft_order.ensures.values ∙ c.split_rows.ensures.widths.0)
+    opens k c.args.log_blowup h m (coordinate p) found (log_size d) (shift_of d) _ _ at.coeffs size
+    shift (ap (λ v. v.width) c.from_cfft_order.ensures.values ∙ c.split_rows.ensures.widths.0)
     (ap view_rows c.from_cfft_order.ensures.values ∙ c.split_rows.ensures.first
     ∙ ap (λ a. take a (rows m)) small) at.told at.at_point)
     points c.args.weights.now values c.requires.right all)) lt)

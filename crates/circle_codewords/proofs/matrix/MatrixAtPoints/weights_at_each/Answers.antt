@@ -29,7 +29,8 @@ loop-point-preserved g c =
     let w = c.unwrap-known.result in
     let Is = AreWeightsFor c.args.self.now c.args.log_blowup in
     let found =
-    subst (λ o. IfSome o (λ f. IsFor c.args.log_blowup c.args.self.now.log_height p.coordinate f.now))
+    let h = c.args.self.now.log_height in
+    subst (λ o. IfSome o (λ f. IsFor c.args.log_blowup h p.coordinate f.now))
     c.unwrap-known.ensures c.weights_at.ensures.some in
     subst (AllZip Is (take (i + 1) points)) (sym c.in_ok-push.ensures.items)
     (pushed-more Is points i p c.loop-point.lent.items _ c.loop-point-test.true c.point-item.is
