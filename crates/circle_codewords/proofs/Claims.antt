@@ -3,7 +3,11 @@ use Rattle.std.specs.Prelude.{◌≡◌, ℕ, ◌+◌, ◌<◌, ◌==◌, if◌t
 use Rattle.std.specs.Prelude.{length, map, take, slice_index_or}
 use Rattle.std.proofs.Common.{sym, ◌∙◌, ap}
 use Rattle.std.proofs.lemmas.List.{map-append, append-nil, append_assoc, take_more}
+use Rattle.circle_field.specs.Circle.{Coordinates}
+use Rattle.circle_field.specs.Field.{FieldOps}
 use Rattle.circle_relation.specs.Statement.{PointClaim}
+use Rattle.circle_relation.specs.Sums.{Adds}
+use Rattle.circle_relation.proofs.ReducedSums.{adds-both, adds-same}
 use Rattle.circle_codewords.specs.Words.{Committed, claims_on, claims_at}
 
 module _ {F E : Type 0} where
@@ -12,7 +16,7 @@ module _ {F E : Type 0} where
   claims_among m claims j = map (λ c. (c, slice_index_or m.rows j [])) claims
 
   -- one claim more
-  pub among-more : (m : Committed F E) (i : ℕ) (claim : PointClaim E) (j : ℕ) →
+  among-more : (m : Committed F E) (i : ℕ) (claim : PointClaim E) (j : ℕ) →
       i < length m.claims → slice_index_or m.claims i claim ≡ claim →
       claims_among m (take i m.claims) j ++ (claim, slice_index_or m.rows j []) ∷ []
       ≡ claims_among m (take (i + 1) m.claims) j
@@ -20,6 +24,23 @@ module _ {F E : Type 0} where
       let f : PointClaim E → PointClaim E × List F = λ c. (c, slice_index_or m.rows j []) in
       sym (ap (map f) (take_more m.claims i claim lt ∙ ap (λ c. take i m.claims ++ c ∷ []) is)
       ∙ map-append f (take i m.claims) (claim ∷ []))
+
+  -- what the claims before it add and what it adds are what these claims add
+  pub claim-after : (l : FieldOps E) (embed : F → E) (alpha : E) (points : List (Coordinates F))
+      (none : Coordinates F) (m : Committed F E) (i : ℕ) (claim : PointClaim E)
+      (first offset after : E) (begun old new : List E) → i < length m.claims →
+      slice_index_or m.claims i claim ≡ claim →
+      Adds l embed alpha points none (claims_among m (take i m.claims)) first offset begun old →
+      Adds l embed alpha points none (λ j. (claim, slice_index_or m.rows j []) ∷ []) offset after
+      old new →
+      Adds l embed alpha points none (claims_among m (take (i + 1) m.claims)) first after begun new
+  claim-after l embed alpha points none m i claim first offset after begun old new lt is before this =
+      adds-same l embed alpha points none
+      (λ j. claims_among m (take i m.claims) j ++ (claim, slice_index_or m.rows j []) ∷ [])
+      (claims_among m (take (i + 1) m.claims)) first after begun new
+      (adds-both l embed alpha points none (claims_among m (take i m.claims))
+      (λ j. (claim, slice_index_or m.rows j []) ∷ []) first offset after begun old new before this)
+      (λ j _. among-more m i claim j lt is)
 
   claims-append : (h : ℕ) (ms : List (Committed F E)) (m : Committed F E) (j : ℕ) →
       claims_at h (ms ++ m ∷ []) j ≡ claims_at h ms j

@@ -13,30 +13,27 @@ use Rattle.circle_field.specs.Circle.{Coordinates}
 use Rattle.circle_point.specs.Projective.{from_line}
 use Rattle.circle_domain.specs.declared.lagrange.LagrangeWeights.{LagrangeWeights}
 use Rattle.circle_codewords.specs.OfMatrices.{AreWeightsFor, IsFor, fields_at}
-use Rattle.circle_codewords.specs.Ratios.{vanishing_ratio, AreRatiosOf}
+use Rattle.circle_codewords.specs.Ratios.{vanishing_ratio, AreRatiosOf, HasRatios}
 use Rattle.circle_codewords.specs.Values.{AreWeightsOf}
 use Rattle.circle_codewords.specs.declared.matrix.MatrixAtPoints.{MatrixAtPoints}
 use Rattle.circle_codewords.specs.declared.matrix.PointWeights.{PointWeights}
+use Rattle.circle_codewords.specs.declared.points.OpeningPoint.{OpeningPoint}
 use Rattle.circle_codewords.specs.declared.ratios.PointRatios.{PointRatios}
 
 module _ {X : Type 0} (P : X → Type 0) where
-  -- one of a list is one of a longer list, and so is the last
+  -- one of a list is one of a longer list
   pub any-kept : (xs : List X) (x : X) → Any P xs → Any P (xs ++ x ∷ [])
   any-kept [] x (i, d, lt, is, p) = absurd (omega (arith, lt))
   any-kept (y ∷ ys) x (zero, d, lt, is, p) = (0, d, omega arith, is, p)
   any-kept (y ∷ ys) x (suc i, d, lt, is, p) = let r =
       any-kept ys x (i, d, omega (arith, lt), is, p) in (suc r.0, r.1, omega (arith, r.2), r.3, r.4)
 
-  pub any-last : (xs : List X) (x : X) → P x → Any P (xs ++ x ∷ [])
-  any-last [] x p = (0, x, omega arith, refl, p)
-  any-last (y ∷ ys) x p = let r = any-last ys x p in (suc r.0, r.1, omega (arith, r.2), r.3, r.4)
-
 module _ {E : Type 0} where
   -- what is found is known
   pub known-of : (o : Option (Bor (List E))) (xs : List (PointRatios E)) (p : E) →
       is_some o ≡ true →
       IfSome o (λ found. Any (λ r. (r.point ≡ p) × (r.ratios.items ≡ found.now)) xs) →
-      Any (λ r. r.point ≡ p) xs
+      HasRatios xs p
   known-of (Some found) xs p some h = (h.0, h.1, h.2, h.3, h.4.0)
   known-of None xs p some h = absurd (false≢true some)
 
@@ -67,15 +64,15 @@ below-more P xs i x within is before here j d below =
     (subst P (is ∙ get_or_default xs i x d within) here)) (cases_lt j i)
 
 -- the weights that were found for a matrix's height and a point are right
-pub weights-for : {F E : Type 0} {over : _} (m : MatrixAtPoints F E over) (blowup : ℕ) (t : E)
-    (w : PointWeights F E over) (lent : Bor (LagrangeWeights E)) →
-    IsFor blowup m.log_height t w → w.weights ≡ lent.now → AreWeightsFor m blowup t lent
-weights-for m blowup t w lent found same = record {
+pub weights-for : {F E : Type 0} {over g : _} (m : MatrixAtPoints F E over g) (blowup : ℕ)
+    (p : OpeningPoint E g) (w : PointWeights F E over) (lent : Bor (LagrangeWeights E)) →
+    IsFor blowup m.log_height p.coordinate w → w.weights ≡ lent.now → AreWeightsFor m blowup p lent
+weights-for m blowup p w lent found same = record {
   count = ap (λ s. length s.shares.items) (sym same) ∙ w.count
       ∙ ap (λ b. 2 ^ (w.log_height - b)) found.0 ∙ ap (λ h. 2 ^ (h - blowup)) found.1;
   sum =
-      subst (AreWeightsOf (fields_at m) blowup m.log_height t) same
-      (subst (λ p. AreWeightsOf (fields_at m) blowup m.log_height p w.weights) found.2
+      subst (AreWeightsOf (fields_at m) blowup m.log_height p.coordinate) same
+      (subst (λ t. AreWeightsOf (fields_at m) blowup m.log_height t w.weights) found.2
       (subst (λ h. AreWeightsOf (fields_at m) blowup h w.point w.weights) found.1
       (subst (λ b. AreWeightsOf (fields_at m) b w.log_height w.point w.weights) found.0 w.right)));
 }

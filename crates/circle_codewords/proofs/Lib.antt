@@ -1,3 +1,5 @@
+pub mod Added
+pub mod AtPoints
 pub mod Claims
 pub mod Combinations
 pub mod DomainPoints
@@ -6,6 +8,7 @@ pub mod Known
 pub mod Lifts
 pub mod Logs
 pub mod Opened
+pub mod OpenedClaims
 pub mod Pairs
 pub mod Prefix
 pub mod Quotients

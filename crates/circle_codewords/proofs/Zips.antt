@@ -1,7 +1,9 @@
 -- Lists whose elements belong together, place by place.
-use Rattle.std.specs.Prelude.{◌≡◌, ℕ, ◌<◌, List, [], ◌∷◌, ◌++◌, length, All, slice_index_or}
+use Rattle.std.specs.Prelude.{◌≡◌, ℕ, ◌+◌, ◌<◌, List, [], ◌∷◌, ◌++◌, length, take, All}
+use Rattle.std.specs.Prelude.{slice_index_or}
 use Rattle.std.specs.List.{AllZip}
-use Rattle.std.proofs.Common.{zero, suc, refl, sym, ap, subst, arith}
+use Rattle.std.proofs.Common.{◌∙◌, zero, suc, sym, ap, subst, arith}
+use Rattle.std.proofs.lemmas.List.{take_more}
 use Rattle.std.proofs.lemmas.List.Elements.{All-nil, All-cons}
 
 module _ {X Y : Type 0} (R : X → Y → Type 0) where
@@ -12,16 +14,14 @@ module _ {X Y : Type 0} (R : X → Y → Type 0) where
   zip-push (a ∷ xs) [] x y all here = absurd all
   zip-push (a ∷ xs) (b ∷ ys) x y all here = (all.0, zip-push xs ys x y all.1 here)
 
-  pub zip-pushed : (xs : List X) (ys zs : List Y) (x : X) (y : Y) → zs ≡ ys ++ y ∷ [] →
-      AllZip R xs ys → R x y → AllZip R (xs ++ x ∷ []) zs
-  zip-pushed xs ys zs x y made all here =
-      subst (AllZip R (xs ++ x ∷ [])) (sym made) (zip-push xs ys x y all here)
-
-  pub zip-length : (xs : List X) (ys : List Y) → AllZip R xs ys → length xs ≡ length ys
-  zip-length [] [] all = refl
-  zip-length [] (b ∷ ys) all = absurd all
-  zip-length (a ∷ xs) [] all = absurd all
-  zip-length (a ∷ xs) (b ∷ ys) all = ap suc (zip-length xs ys all.1)
+  -- one more value that is pushed for one more item
+  pub pushed-more : (xs : List X) (i : ℕ) (x : X) (old : List Y) (y : Y) → i < length xs →
+      x ≡ slice_index_or xs i x → AllZip R (take i xs) old → R x y →
+      AllZip R (take (i + 1) xs) (old ++ y ∷ [])
+  pushed-more xs i x old y lt is so_far here =
+      subst (λ l. AllZip R l (old ++ y ∷ []))
+      (ap (λ z. take i xs ++ z ∷ []) is ∙ sym (take_more xs i x lt))
+      (zip-push (take i xs) old x y so_far here)
 
   pub zip-read : (xs : List X) (ys : List Y) (i : ℕ) (d : X) (e : Y) → AllZip R xs ys →
       i < length xs → R (slice_index_or xs i d) (slice_index_or ys i e)
@@ -38,13 +38,6 @@ module _ {X Y : Type 0} (R : X → Y → Type 0) where
   zip-second P says (a ∷ xs) [] all = absurd all
   zip-second P says (a ∷ xs) (b ∷ ys) all =
       All-cons P b ys (says a b all.0) (zip-second P says xs ys all.1)
-
-  pub zip-weaker : (S : X → Y → Type 0) → ((x : X) (y : Y) → R x y → S x y) →
-      (xs : List X) (ys : List Y) → AllZip R xs ys → AllZip S xs ys
-  zip-weaker S says [] [] all = tt
-  zip-weaker S says [] (b ∷ ys) all = absurd all
-  zip-weaker S says (a ∷ xs) [] all = absurd all
-  zip-weaker S says (a ∷ xs) (b ∷ ys) all = (says a b all.0, zip-weaker S says xs ys all.1)
 
 -- of three lists
 pub zip-through : {X Y Z : Type 0} (R : X → Y → Type 0) (S : Y → Z → Type 0) (T : X → Z → Type 0) →

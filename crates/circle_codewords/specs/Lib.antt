@@ -1,4 +1,5 @@
 pub mod Lifts
+pub mod Points
 pub mod Ratios
 pub mod Values
 pub mod Words

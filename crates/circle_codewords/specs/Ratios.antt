@@ -1,5 +1,6 @@
 -- What all claims at one point share, at the points of a domain.
 use Rattle.std.specs.Prelude.{◌≡◌, ℕ, ◌+◌, List, map}
+use Rattle.std.specs.List.{Any}
 use Rattle.circle_field.specs.Field.{FieldOps, sub}
 use Rattle.circle_field.specs.Circle.{Coordinates}
 use Rattle.circle_point.specs.Projective.{from_line}
@@ -22,6 +23,10 @@ module _ {F E : Type 0} (l : FieldOps E) (embed : F → E) where
   abbrev pub AreRatiosOf : List (Coordinates F) → PointRatios E → Type 0
   AreRatiosOf points r =
       r.ratios.items ≡ map (vanishing_ratio (from_line l r.point)) points
+
+-- those of a point, by its coordinate, were made
+abbrev pub HasRatios : {E : Type 0} → List (PointRatios E) → E → Type 0
+HasRatios all t = Any (λ r. r.point ≡ t) all
 
 module _ {E : Type 0} (l : FieldOps E) where
   -- to each sum (half - top * t) * (c - claimed), with t a ratio and c a combined row

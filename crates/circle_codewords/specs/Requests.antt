@@ -1,12 +1,12 @@
 -- What an opening is requested of, and what it returns.
 use Rattle.std.specs.Prelude.{◌≡◌, ℕ, ◌+◌, ◌-◌, ◌^◌, ◌<◌, ◌≤◌, List, length, map, zip, flat_map}
-use Rattle.std.specs.Prelude.{All, nat_le, Vec, ◌++◌, [], ◌∷◌}
+use Rattle.std.specs.Prelude.{All, nat_le, Vec, [], ◌∷◌}
 use Rattle.std.specs.Coded.{×_prop, Unit-prop}
 use Rattle.std.specs.List.{AllZip, filter, range_with_len}
 use Rattle.std.specs.declared.alloc.Global.{Global}
 use Rattle.std.proofs.Common.{suc}
 use Rattle.std.proofs.Props.{props}
-use Rattle.circle_commit.specs.Mmcs.{HaveHeightsOfPowers, max_height, opened_rows}
+use Rattle.circle_commit.specs.Mmcs.{HaveHeightsOfPowers, max_height}
 use Rattle.circle_commit.specs.Pcs.{Openings}
 use Rattle.circle_commit.specs.RowMajorMatrix.{rows, width_of, height_of}
 use Rattle.circle_commit.specs.declared.matrix.RowMajorMatrix.{RowMajorMatrix}
@@ -78,14 +78,6 @@ module _ {F E : Type 0} where
 abbrev pub lists_of : {E : Type 0} → List (Vec E Global) → List (List E)
 lists_of vectors = map (λ v. v.items) vectors
 
--- to a list of opened matrices those of a batch were added
-abbrev pub AddsBatch : {F E : Type 0} {over : _} → Fields F E → ℕ → List (RowMajorMatrix F)
-    → List (Vec E Global) → List (Vec (Vec E Global) Global) → List (OpenedMatrix F E over)
-    → List (OpenedMatrix F E over) → Type 0
-AddsBatch k blowup matrices points values old new =
-    map (committed_of k blowup) new ≡ map (committed_of k blowup) old
-    ++ batch_committed k blowup matrices (lists_of points) (opened_rows values)
-
 -- kept of what a committer keeps are the matrices
 module _ {D F E : Type 0} (kept : D → List (RowMajorMatrix F)) where
   -- the points of a request's matrices
@@ -101,8 +93,8 @@ module _ {D F E : Type 0} (kept : D → List (RowMajorMatrix F)) where
         requests values
 
     -- these are they, one after another
-    abbrev pub AreAllRequested : {over : _} → List (OpeningRequest D E) → Openings E
-        → List (OpenedMatrix F E over) → Type 0
+    abbrev pub AreAllRequested : {over g : _} → List (OpeningRequest D E) → Openings E
+        → List (OpenedMatrix F E over g) → Type 0
     AreAllRequested requests values list =
         map (committed_of k blowup) list ≡ flat_map (λ b. b) (all_committed requests values)
 

@@ -1,6 +1,6 @@
 -- The codewords that an opening makes of committed matrices: Circle STARKs (ePrint 2024/278),
 -- sections 4 to 6.
-use Rattle.std.specs.Prelude.{◌≡◌, ℕ, ◌-◌, ◌/◌, ◌^◌, ◌<◌, ◌≤◌, ◌==◌, if◌then◌else◌, List, []}
+use Rattle.std.specs.Prelude.{◌≡◌, ℕ, ◌-◌, ◌/◌, ◌^◌, ◌<◌, ◌==◌, if◌then◌else◌, List, []}
 use Rattle.std.specs.Prelude.{length, map, flat_map, All, slice_index_or, Vec}
 use Rattle.std.specs.declared.alloc.Global.{Global}
 use Rattle.std.specs.List.{list_any, range_with_len}
@@ -16,6 +16,7 @@ use Rattle.circle_relation.specs.Accepts.{Fields}
 use Rattle.circle_relation.specs.Statement.{PointClaim}
 use Rattle.circle_commit.specs.declared.matrix.RowMajorMatrix.{RowMajorMatrix}
 use Rattle.circle_codewords.specs.Lifts.{read_rows}
+use Rattle.circle_codewords.specs.Points.{coordinates_of}
 use Rattle.circle_codewords.specs.Ratios.{points_of_height}
 use Rattle.circle_codewords.specs.declared.matrix.OpenedMatrix.{OpenedMatrix}
 
@@ -62,12 +63,12 @@ abbrev pub pairs_of : {E : Type 0} → List E → List (List E)
 pairs_of word = rows_from 2 (length word / 2) word
 
 -- what contracts see of a matrix that is opened
-abbrev pub committed_of : {F E : Type 0} {over : _} → Fields F E → ℕ → OpenedMatrix F E over
+abbrev pub committed_of : {F E : Type 0} {over g : _} → Fields F E → ℕ → OpenedMatrix F E over g
     → Committed F E
 committed_of k blowup m = record {
   log_height = m.log_height;
   rows = read_rows k blowup m.log_height (width_of m.rows.now) (rows m.rows.now);
-  claims = pairwise (λ t v. claim_of t v.items) m.points.now m.values.now;
+  claims = pairwise (λ t v. claim_of t v.items) (coordinates_of m.points.now) m.values.now;
 }
 
 -- the logarithm of a height that leaves something of its codeword without the blowup
@@ -93,7 +94,7 @@ next_word k heights folded h beta word =
     (x_folds k.field k.gen k.extension k.embed (h - 1) beta (pairs_of word))
 
 -- the codewords of matrices that are opened
-module _ {F E : Type 0} {over : _} (k : Fields F E) (matrices : List (OpenedMatrix F E over))
+module _ {F E : Type 0} {over g : _} (k : Fields F E) (matrices : List (OpenedMatrix F E over g))
     (blowup : ℕ) where
   abbrev pub opened_word : E → ℕ → List E
   opened_word alpha = reduced_word k alpha (map (committed_of k blowup) matrices)
@@ -110,8 +111,8 @@ module _ {F E : Type 0} {over : _} (k : Fields F E) (matrices : List (OpenedMatr
   layers_of alpha heights = map (opened_rows alpha) heights
 
 -- to sums over the points of its height, what the claims on a matrix that is opened add
-abbrev pub AddsClaims : {F E : Type 0} {over : _} → Fields F E → ℕ → OpenedMatrix F E over → E → E
-    → E → List E → List E → Type 0
+abbrev pub AddsClaims : {F E : Type 0} {over g : _} → Fields F E → ℕ → OpenedMatrix F E over g → E
+    → E → E → List E → List E → Type 0
 AddsClaims k blowup m alpha =
     Adds k.extension k.embed alpha (points_of_height k.field k.gen m.log_height) (origin k.field)
     (claims_on (committed_of k blowup m))

@@ -3,6 +3,8 @@
 //!
 //! What is proved, for every lawful field and extension:
 //!
+//! - An `OpeningPoint` is a point with its coordinate on the projective line. It is made of the
+//!   coordinate once, and `OpeningPoint::new` returns none only where that belongs to no point.
 //! - A `MatrixAtPoints` is a committed matrix with points that it can be opened at, an
 //!   `OpenedMatrix` one with its columns' values there, and `BatchedMatrices` are several with the
 //!   powers of a batching challenge. Each carries that fact, and is made by a call that tests it:
@@ -32,21 +34,24 @@
 //!
 //! Its files:
 //!
-//! - In `src/`, `matrix.rt`: the values that carry facts; `combined.rt`: combinations of columns;
-//!   `corrected.rt`: codewords without their lambda, as rows of two, and their folds by y.
-//! - In `specs/`, `Values`, `Ratios`, `Lifts`, `Words`: the definitions. `OfMatrices`: the same over
-//!   a value of `matrix.rt`, whose type has the dictionary of its fields. `Requests`, `Openings`:
-//!   what an opening is requested of and returns, and what is opened at the queries. `Rows`:
-//!   logarithms.
+//! - In `src/`, `points.rt`: points with their coordinates; `matrix.rt`: the other values that
+//!   carry facts; `values.rt`, `ratios.rt`: what depends on a point; `combined.rt`: combinations of
+//!   columns; `corrected.rt`: codewords without their lambda, as rows of two, and their folds by y.
+//! - In `specs/`, `Points`: the coordinates of points. Over these coordinates, `Values`, `Ratios`,
+//!   `Lifts` and `Words`: the definitions. `OfMatrices`: the same over a value of `matrix.rt`, whose
+//!   type has the dictionary of its fields. `Requests`, `Openings`: what an opening is requested of
+//!   and returns, and what is opened at the queries. `Rows`: logarithms.
 //! - In `proofs/`, `Prefix`: the first rows of a committed matrix are those of a smaller domain;
 //!   `Lifts`: what they extend to; `Combinations`: to combine extended rows is to extend what is
-//!   combined; `Opened`, `Known`: values by weights; `DomainPoints`, `Quotients`, `Claims`: sums of
-//!   quotients by ratios; `Logs`: logarithms of heights; `Widths`, `Pairs`, `Joining`, `Zips`.
+//!   combined; `AtPoints`: points by their coordinates; `Opened`, `Known`: values by weights;
+//!   `DomainPoints`, `Quotients`, `Claims`, `OpenedClaims`, `Added`: sums of quotients by ratios;
+//!   `Logs`: logarithms of heights; `Widths`, `Pairs`, `Joining`, `Zips`.
 #![tactic(auto)]
 
 pub mod combined;
 pub mod corrected;
 pub mod matrix;
+pub mod points;
 pub mod ratios;
 pub mod reduced;
 pub mod rounds;
@@ -55,6 +60,7 @@ pub mod values;
 pub use combined::LIFT_WIDTH;
 pub use corrected::fold_corrected;
 pub use matrix::{BatchedMatrices, MatrixAtPoints, OpenedMatrix, PointWeights};
+pub use points::OpeningPoint;
 pub use ratios::{PointRatios, standard_points, vanishing_ratios};
 pub use rounds::fold_round;
 pub use values::are_off_domain;

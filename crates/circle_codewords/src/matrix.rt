@@ -6,11 +6,13 @@ ghost use Rattle.std.specs.Prelude.{IfSome};
 ghost use Rattle.std.specs.Coded.{Coded-set, coded_list};
 ghost use Rattle.circle_commit.specs.RowMajorMatrix.{width_of};
 ghost use Rattle.circle_folding.specs.Quotient.{ArePowers};
+ghost use Rattle.circle_codewords.specs.Points.{coordinates_of};
 ghost use Rattle.circle_codewords.specs.Values.{AreWeightsOf, AreWeightsOf-prop, CanBeOpened};
 
+use crate::points::OpeningPoint;
 use circle_commit::{Matrix, RowMajorMatrix};
 use circle_domain::LagrangeWeights;
-use circle_field::{ComplexExtendable, ExtensionField, Field};
+use circle_field::{ComplexExtendable, ExtensionField, Field, Operations};
 use circle_relation::OverCircle;
 use std::alloc::{AllocError, Global};
 use std::marker::PhantomData;
@@ -34,35 +36,35 @@ pub struct PointWeights<F: Copy, EF: OverCircle<F>> {
 
 /// A committed matrix, with points that it can be opened at.
 #[derive(Drop)]
-pub struct MatrixAtPoints<'a, F: Copy, EF: OverCircle<F>> {
+pub struct MatrixAtPoints<'a, F: Copy, EF: OverCircle<F> + Operations> {
     /// The binary logarithm of its height.
     pub log_height: usize,
     /// Its rows, in the order of the transform.
     pub rows: &'a RowMajorMatrix<F>,
-    /// The points, each by its coordinate on the projective line.
-    pub points: &'a [EF],
-    pub ghost openable: { CanBeOpened EF.fields log_height rows.now points.now },
+    /// The points.
+    pub points: &'a [OpeningPoint<EF>],
+    pub ghost openable: { CanBeOpened EF.fields log_height rows.now (coordinates_of points.now) },
 }
 
 /// A committed matrix, with the points that it is opened at and its columns' values there.
 #[derive(Drop)]
-pub struct OpenedMatrix<'a, F: Copy, EF: OverCircle<F>> {
+pub struct OpenedMatrix<'a, F: Copy, EF: OverCircle<F> + Operations> {
     /// The binary logarithm of its height.
     pub log_height: usize,
     /// Its rows, in the order of the transform.
     pub rows: &'a RowMajorMatrix<F>,
-    /// The points, each by its coordinate on the projective line.
-    pub points: &'a [EF],
+    /// The points.
+    pub points: &'a [OpeningPoint<EF>],
     /// For each point the value of each column.
     pub values: &'a [Vec<EF>],
-    pub ghost openable: { CanBeOpened EF.fields log_height rows.now points.now },
+    pub ghost openable: { CanBeOpened EF.fields log_height rows.now (coordinates_of points.now) },
     pub ghost valued: { length values.now ≡ length points.now },
     pub ghost widths: { All (λ v. length v.items ≡ width_of rows.now) values.now },
 }
 
 /// Matrices that are opened, with the powers of the challenge that batches the claims on them.
 #[derive(Drop)]
-pub struct BatchedMatrices<'a, F: Copy, EF: OverCircle<F>> {
+pub struct BatchedMatrices<'a, F: Copy, EF: OverCircle<F> + Operations> {
     /// The matrices.
     pub matrices: &'a [OpenedMatrix<'a, F, EF>],
     /// The binary logarithm of the blowup, at least 1.

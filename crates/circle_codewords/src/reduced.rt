@@ -1,18 +1,22 @@
 //! The reduced codewords: of each height, at every point of its domain, the quotients of all claims
 //! on matrices of that height (Circle STARKs, section 6).
-ghost use Rattle.std.specs.Prelude.{◌≡◌, ◌≢◌, ◌^◌, ◌<◌, ◌≤◌, length, map, All};
+ghost use Rattle.std.specs.Prelude.{◌≡◌, ◌≢◌, ◌^◌, ◌<◌, ◌≤◌, List, length, map, All};
 ghost use Rattle.std.specs.Prelude.{IsNone, IfSome, IfOk, OnOk};
 ghost use Rattle.std.specs.List.{Any};
 ghost use Rattle.circle_commit.specs.RowMajorMatrix.{width_of};
 ghost use Rattle.circle_commit.specs.DotProduct.{dot};
-ghost use Rattle.circle_domain.specs.Selectors.{IsFinite};
+ghost use Rattle.circle_field.specs.Circle.{Coordinates};
+ghost use Rattle.circle_field.specs.Field.{nth_power};
 ghost use Rattle.circle_folding.specs.Queries.{IsApart};
+ghost use Rattle.circle_folding.specs.Quotient.{ArePowers};
 ghost use Rattle.circle_point.specs.Point.{coordinates};
 ghost use Rattle.circle_point.specs.Projective.{from_line};
-ghost use Rattle.circle_codewords.specs.Ratios.{points_of_height, AreRatiosOf, with_quotients};
-ghost use Rattle.circle_codewords.specs.OfMatrices.{AddsClaims, word_at};
+ghost use Rattle.circle_codewords.specs.Ratios.{points_of_height, AreRatiosOf, HasRatios};
+ghost use Rattle.circle_codewords.specs.Ratios.{vanishing_ratio, with_quotients};
+ghost use Rattle.circle_codewords.specs.OfMatrices.{AddsClaims, HaveRatios, word_at};
 
 use crate::matrix::{BatchedMatrices, OpenedMatrix};
+use crate::points::OpeningPoint;
 use crate::ratios::{PointRatios, standard_points, vanishing_ratios};
 use circle_field::{ComplexExtendable, ExtensionField, Field};
 use circle_point::Point;
@@ -28,6 +32,16 @@ fn combined_values<EF: Field>(values: &[EF], powers: &[EF]) -> EF
         sum = sum + powers[j] * *value;
     }
     sum
+}
+
+// The sum of claimed values, each times its power, and the power that follows these.
+fn combined_claim<EF: Field>(values: &[EF], powers: &[EF]) -> (EF, EF)
+    requires { length values.now < length powers.now }
+    ensures claimed { result.0 ≡ dot EF.ops powers.now values.now }
+    ensures power { (alpha : EF) → ArePowers EF.ops alpha powers.now →
+        result.1 ≡ nth_power EF.ops alpha (length values.now) }
+{
+    (combined_values(values, powers), powers[values.len()])
 }
 
 // Adds to each sum `(half - top * t) * (c - claimed)`, with `t` its ratio and `c` its combined row.
@@ -62,28 +76,40 @@ fn ratios_at<'a, EF: Field>(all: &'a [PointRatios<EF>], point: EF) -> Option<&'a
     None
 }
 
+// The ratios of a point that has some.
+fn known_ratios<'a, F: Field, EF: ExtensionField<F>>(
+    all: &'a [PointRatios<EF>],
+    point: EF,
+) -> &'a [EF]
+    requires { HasRatios all.now point }
+    ensures { (points : List (Coordinates F)) → All (AreRatiosOf EF.ops EF.embed points) all.now →
+        result.now ≡ map (vanishing_ratio EF.ops EF.embed (from_line EF.ops point)) points }
+{
+    ratios_at(all, point).unwrap()
+}
+
 // Makes the ratios of a point, where it has none yet.
 fn add_ratio<F: Field, EF: ExtensionField<F>>(
     alloc: Global,
     all: &mut Vec<PointRatios<EF>>,
     domain: &[Point<F>],
-    point: EF,
+    point: OpeningPoint<EF>,
 ) -> Result<(), AllocError>
-    requires finite { IsFinite EF.ops point }
-    requires apart { IsApart EF.embed (map coordinates domain.now) (from_line EF.ops point) }
+    requires apart { IsApart EF.embed (map coordinates domain.now) (coordinates point.point) }
     requires right { All (AreRatiosOf EF.ops EF.embed (map coordinates domain.now)) all.old.items }
     ensures right { OnOk result
         (All (AreRatiosOf EF.ops EF.embed (map coordinates domain.now)) all.new.items) }
-    ensures known { OnOk result (Any (λ r. r.point ≡ point) all.new.items) }
-    ensures kept { OnOk result ((t : EF) → Any (λ r. r.point ≡ t) all.old.items
-        → Any (λ r. r.point ≡ t) all.new.items) }
+    ensures known { OnOk result (HasRatios all.new.items point.coordinate) }
+    ensures kept { OnOk result ((t : EF) → HasRatios all.old.items t → HasRatios all.new.items t) }
 {
-    if ratios_at(all, point).is_some() {
+    if ratios_at(all, point.coordinate).is_some() {
         return Ok(());
     }
-    let zeta = Point::from_projective_line(point).unwrap();
-    let ratios = vanishing_ratios(alloc, domain, zeta)?;
-    all.push(PointRatios { point, ratios })?;
+    let ratios = vanishing_ratios(alloc, domain, point.point)?;
+    all.push(PointRatios {
+        point: point.coordinate,
+        ratios,
+    })?;
     Ok(())
 }
 
@@ -92,17 +118,15 @@ fn add_ratios<F: Field, EF: ExtensionField<F>>(
     alloc: Global,
     all: &mut Vec<PointRatios<EF>>,
     domain: &[Point<F>],
-    points: &[EF],
+    points: &[OpeningPoint<EF>],
 ) -> Result<(), AllocError>
-    requires finite { All (IsFinite EF.ops) points.now }
-    requires apart { All (λ t. IsApart EF.embed (map coordinates domain.now)
-        (from_line EF.ops t)) points.now }
+    requires apart { All (λ p. IsApart EF.embed (map coordinates domain.now)
+        (coordinates p.point)) points.now }
     requires right { All (AreRatiosOf EF.ops EF.embed (map coordinates domain.now)) all.old.items }
     ensures right { OnOk result
         (All (AreRatiosOf EF.ops EF.embed (map coordinates domain.now)) all.new.items) }
-    ensures known { OnOk result (All (λ t. Any (λ r. r.point ≡ t) all.new.items) points.now) }
-    ensures kept { OnOk result ((t : EF) → Any (λ r. r.point ≡ t) all.old.items
-        → Any (λ r. r.point ≡ t) all.new.items) }
+    ensures known { OnOk result (All (λ p. HasRatios all.new.items p.coordinate) points.now) }
+    ensures kept { OnOk result ((t : EF) → HasRatios all.old.items t → HasRatios all.new.items t) }
 {
     for point in points {
         add_ratio(alloc, all, domain, *point)?;
@@ -122,7 +146,7 @@ impl<F: ComplexExtendable, EF: ExtensionField<F>> BatchedMatrices<'_, F, EF> {
         ensures right { IfOk result (λ all. All (AreRatiosOf EF.ops EF.embed
             (points_of_height F.ops F.generators log_height)) all.items) }
         ensures known { IfOk result (λ all. All (λ m. m.log_height ≡ log_height →
-            All (λ t. Any (λ r. r.point ≡ t) all.items) m.points.now) self.now.matrices.now) }
+            HaveRatios all.items m) self.now.matrices.now) }
     {
         let domain = standard_points::<F>(alloc, log_height)?;
         let mut all = Vec::new(alloc);
@@ -149,7 +173,7 @@ impl<F: ComplexExtendable, EF: ExtensionField<F>> BatchedMatrices<'_, F, EF> {
         requires size { length sums.old ≡ 2 ^ matrix.now.log_height }
         requires right { All (AreRatiosOf EF.ops EF.embed
             (points_of_height F.ops F.generators matrix.now.log_height)) ratios.now }
-        requires known { All (λ t. Any (λ r. r.point ≡ t) ratios.now) matrix.now.points.now }
+        requires known { HaveRatios ratios.now matrix.now }
         ensures { IfOk result (λ o. AddsClaims self.now matrix.now offset o sums.old sums.new) }
     {
         if matrix.points.is_empty() {
@@ -159,11 +183,9 @@ impl<F: ComplexExtendable, EF: ExtensionField<F>> BatchedMatrices<'_, F, EF> {
         let combined = matrix.combined_rows(alloc, self.log_blowup, powers)?;
         let mut after = offset;
         for (i, point) in matrix.points.iter().enumerate() {
-            let values = &matrix.values[i];
-            let power = powers[values.len()];
+            let (claimed, power) = combined_claim(&matrix.values[i], powers);
             let half = after.halve();
-            let claimed = combined_values(values, powers);
-            let ratios = ratios_at(ratios, *point).unwrap();
+            let ratios = known_ratios::<F, EF>(ratios, point.coordinate);
             add_quotients(sums, half, half * power, ratios, &combined, claimed);
             after = after * power * power;
         }

@@ -12,12 +12,15 @@ ghost use Rattle.circle_domain.specs.Clear.{IsClearOf};
 ghost use Rattle.circle_domain.specs.Domain.{log_size, shift_of};
 ghost use Rattle.circle_domain.specs.Selectors.{IsFinite};
 ghost use Rattle.circle_folding.specs.Queries.{IsApart};
+ghost use Rattle.circle_point.specs.Point.{coordinates};
 ghost use Rattle.circle_point.specs.Projective.{from_line};
 ghost use Rattle.circle_codewords.specs.OfMatrices.{AreValuesAt, AreWeightsFor, IsFor, IsNoneRightly};
+ghost use Rattle.circle_codewords.specs.Points.{coordinates_of};
 ghost use Rattle.circle_codewords.specs.Ratios.{points_of_height};
 ghost use Rattle.circle_codewords.specs.Values.{AreOffStandard, domain_points};
 
 use crate::matrix::{MatrixAtPoints, PointWeights};
+use crate::points::OpeningPoint;
 use circle_commit::{Matrix, RowMajorMatrix};
 use circle_domain::{CircleDomain, LagrangeWeights, lagrange_weights};
 use circle_field::{ComplexExtendable, ExtensionField};
@@ -26,7 +29,20 @@ use circle_point::Point;
 use std::alloc::{AllocError, Global};
 use std::marker::PhantomData;
 
-// Whether a point is not at infinity, and a standard domain is clear of it.
+// Whether a standard domain is clear of a point.
+fn is_clear_of<F: ComplexExtendable, EF: ExtensionField<F>>(
+    log_height: usize,
+    at: Point<EF>,
+) -> bool
+    requires positive { 1 ≤ log_height }
+    requires in_group { log_height < F.CIRCLE_TWO_ADICITY }
+    ensures { IsTrue result ↔ IsClearOf EF.ops EF.embed
+        (domain_points F.ops F.generators log_height) (coordinates at) }
+{
+    CircleDomain::<F>::standard(log_height).is_clear_of(at)
+}
+
+// Whether a coordinate belongs to a point, and a standard domain is clear of it.
 fn is_off_domain<F: ComplexExtendable, EF: ExtensionField<F>>(log_height: usize, point: EF) -> bool
     requires positive { 1 ≤ log_height }
     requires in_group { log_height < F.CIRCLE_TWO_ADICITY }
@@ -34,13 +50,14 @@ fn is_off_domain<F: ComplexExtendable, EF: ExtensionField<F>>(log_height: usize,
         (domain_points F.ops F.generators log_height) (from_line EF.ops point)) }
 {
     match Point::from_projective_line(point) {
-        Some(at) => CircleDomain::<F>::standard(log_height).is_clear_of(at),
+        Some(at) => is_clear_of::<F, EF>(log_height, at),
         None => false,
     }
 }
 
-/// Whether the points are not at infinity, and the domain of `2^log_height` committed rows is clear
-/// of each, as an opening there requires; then none is a point of that domain.
+/// Whether the points, each by its coordinate, are not at infinity, and the domain of
+/// `2^log_height` committed rows is clear of each, as an opening there requires; then none is a
+/// point of that domain.
 ///
 /// Requires `1 <= log_height < CIRCLE_TWO_ADICITY`. Takes no memory.
 pub fn are_off_domain<F: ComplexExtendable, EF: ExtensionField<F>>(
@@ -64,6 +81,26 @@ pub fn are_off_domain<F: ComplexExtendable, EF: ExtensionField<F>>(
     true
 }
 
+// Whether a standard domain is clear of the points.
+fn is_clear_of_each<F: ComplexExtendable, EF: ExtensionField<F>>(
+    log_height: usize,
+    points: &[OpeningPoint<EF>],
+) -> bool
+    requires positive { 1 ≤ log_height }
+    requires in_group { log_height < F.CIRCLE_TWO_ADICITY }
+    ensures yes { IsTrue result →
+        AreOffStandard F.ops F.generators EF.ops EF.embed log_height (coordinates_of points.now) }
+    ensures no { AreOffStandard F.ops F.generators EF.ops EF.embed log_height
+        (coordinates_of points.now) → IsTrue result }
+{
+    for point in points {
+        if !is_clear_of::<F, EF>(log_height, point.point) {
+            return false;
+        }
+    }
+    true
+}
+
 impl<'a, F: ComplexExtendable, EF: ExtensionField<F>> MatrixAtPoints<'a, F, EF> {
     /// The matrix with the points, where it can be opened at them: it has `2^log_height` rows, with
     /// `1 <= log_height < CIRCLE_TWO_ADICITY`, and the domain of its rows is clear of each. Takes no
@@ -71,16 +108,16 @@ impl<'a, F: ComplexExtendable, EF: ExtensionField<F>> MatrixAtPoints<'a, F, EF> 
     pub fn new(
         log_height: usize,
         rows: &'a RowMajorMatrix<F>,
-        points: &'a [EF],
+        points: &'a [OpeningPoint<EF>],
     ) -> Option<MatrixAtPoints<'a, F, EF>>
         ensures some { IfSome result (λ m. (m.log_height ≡ log_height) × (m.rows.now ≡ rows.now)
             × (m.points.now ≡ points.now)) }
-        ensures none { IsNoneRightly result log_height rows.now points.now }
+        ensures none { IsNoneRightly result log_height rows.now (coordinates_of points.now) }
     {
         if log_height >= 1
             && log_height < F::CIRCLE_TWO_ADICITY
             && rows.height() == 1 << log_height
-            && are_off_domain::<F, EF>(log_height, points)
+            && is_clear_of_each::<F, EF>(log_height, points)
         {
             return Some(MatrixAtPoints {
                 log_height,
@@ -134,26 +171,26 @@ fn add_weights<F: ComplexExtendable, EF: ExtensionField<F>>(
     all: &mut Vec<PointWeights<F, EF>>,
     log_blowup: usize,
     log_height: usize,
-    point: EF,
+    point: OpeningPoint<EF>,
 ) -> Result<(), AllocError>
     requires blowup { log_blowup < log_height }
     requires in_group { log_height < F.CIRCLE_TWO_ADICITY }
-    requires finite { IsFinite EF.ops point }
     requires off { IsClearOf EF.ops EF.embed (domain_points F.ops F.generators log_height)
-        (from_line EF.ops point) }
-    ensures known { OnOk result (Any (IsFor log_blowup log_height point) all.new.items) }
+        (from_line EF.ops point.coordinate) }
+    ensures known { OnOk result
+        (Any (IsFor log_blowup log_height point.coordinate) all.new.items) }
     ensures kept { OnOk result ((t : EF) → Any (IsFor log_blowup log_height t) all.old.items →
         Any (IsFor log_blowup log_height t) all.new.items) }
 {
-    if weights_at(all, log_blowup, log_height, point).is_some() {
+    if weights_at(all, log_blowup, log_height, point.coordinate).is_some() {
         return Ok(());
     }
-    let at = Point::from_projective_line(point).unwrap();
-    let weights = lagrange_weights(alloc, first_domain::<F>(log_blowup, log_height), at)?;
+    let domain = first_domain::<F>(log_blowup, log_height);
+    let weights = lagrange_weights(alloc, domain, point.point)?;
     all.push(PointWeights {
         log_blowup,
         log_height,
-        point,
+        point: point.coordinate,
         weights,
         field: PhantomData,
     })?;
@@ -169,7 +206,7 @@ impl<F: ComplexExtendable, EF: ExtensionField<F>> MatrixAtPoints<'_, F, EF> {
         log_blowup: usize,
     ) -> Result<(), AllocError>
         requires { log_blowup < self.now.log_height }
-        ensures { OnOk result (All (λ t. Any (IsFor log_blowup self.now.log_height t)
+        ensures { OnOk result (All (λ p. Any (IsFor log_blowup self.now.log_height p.coordinate)
             all.new.items) self.now.points.now) }
     {
         for point in self.points {
@@ -185,14 +222,14 @@ impl<F: ComplexExtendable, EF: ExtensionField<F>> MatrixAtPoints<'_, F, EF> {
         all: &'a [PointWeights<F, EF>],
         log_blowup: usize,
     ) -> Result<Vec<&'a LagrangeWeights<EF>>, AllocError>
-        requires { All (λ t. Any (IsFor log_blowup self.now.log_height t) all.now)
+        requires { All (λ p. Any (IsFor log_blowup self.now.log_height p.coordinate) all.now)
             self.now.points.now }
         ensures { IfOk result (λ lent.
             AllZip (AreWeightsFor self.now log_blowup) self.now.points.now lent.items) }
     {
         let mut lent = Vec::with_capacity(alloc, self.points.len())?;
         for point in self.points {
-            let known = weights_at(all, log_blowup, self.log_height, *point).unwrap();
+            let known = weights_at(all, log_blowup, self.log_height, point.coordinate).unwrap();
             lent.push(&known.weights)?;
         }
         Ok(lent)

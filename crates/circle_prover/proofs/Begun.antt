@@ -29,7 +29,7 @@ use Rattle.circle_prover.proofs.Stuck.{rounds-moved, stuck-moved, stuck-query}
 use Rattle.circle_prover.proofs.TallMatrices.{tall-seen, top-is, top-tall}
 use Rattle.circle_prover.proofs.Tops.{front-of, heights-end, lower, split-last, words-alike}
 
-module _ {F E M Com D : Type 0} {over : _} (o : FoldableMatrices F E M over)
+module _ {F E M Com D : Type 0} {over g : _} (o : FoldableMatrices F E M over g)
     (Commits : M → List (RowMajorMatrix E) → Com → Type 0) (kept_of : D → List (RowMajorMatrix E))
     (l : FoldedLayer F E Com D) (tallest : List E)
     (layer : IsFoldedLayer o Commits kept_of l tallest) where

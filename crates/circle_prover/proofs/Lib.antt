@@ -15,8 +15,6 @@ pub mod Seen
 pub mod Sided
 pub mod Stuck
 pub mod TallMatrices
-pub mod Threes
 pub mod Tops
 pub mod Transcripts
 pub mod Unrefused
-pub mod Zipped

@@ -16,7 +16,7 @@ any-map : {X Y : Type 0} (p : Y → Bool) (f : X → Y) (xs : List X) → list_a
 any-map p f [] = refl
 any-map p f (x ∷ xs) = ap (λ b. p (f x) || b) (any-map p f xs)
 
-module _ {F E : Type 0} {over : _} (k : Fields F E) (blowup : ℕ) (ms : List (OpenedMatrix F E over))
+module _ {F E : Type 0} {over g : _} (k : Fields F E) (blowup : ℕ) (ms : List (OpenedMatrix F E over g))
   where
     -- the greatest of them
     pub top-seen : greatest (map (λ m. m.log_height) ms) ≡ top_of (map (committed_of k blowup) ms)

@@ -14,7 +14,7 @@ use Rattle.circle_prover.specs.declared.foldable.FoldableMatrices.{FoldableMatri
 use Rattle.circle_prover.proofs.Seen.{top-seen}
 use Rattle.circle_prover.proofs.Tops.{height-known, top-known}
 
-module _ {F E M : Type 0} {over : _} (o : FoldableMatrices F E M over) where
+module _ {F E M : Type 0} {over g : _} (o : FoldableMatrices F E M over g) where
   -- there is one, and each leaves something to fold
   pub tall-seen : AreTall o.params.now (seen o)
   tall-seen =
@@ -50,7 +50,7 @@ module _ {F E M : Type 0} {over : _} (o : FoldableMatrices F E M over) where
   top-is = top-seen over.fields o.params.now.log_blowup o.matrices.now
 
   -- what is made of them with a batching challenge
-  module _ (b : BatchedMatrices F E over) (alpha : E) (hs : List ℕ)
+  module _ (b : BatchedMatrices F E over g) (alpha : E) (hs : List ℕ)
       (same : b.matrices.now ≡ o.matrices.now) (blowup : b.log_blowup ≡ o.params.now.log_blowup)
       (challenge : b.alpha ≡ alpha) (all : hs ≡ heights_of (seen o)) where
     pub lambdas-batched : map (lambda_at b) hs ≡ lambdas_of o alpha

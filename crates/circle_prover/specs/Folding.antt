@@ -44,11 +44,11 @@ pub record IsBegun {C F E Com Side S D : Type 0} {h d : _}
       ≡ first_layer (run_of old) after l.layer.commitment
 
 -- how many rounds there are
-abbrev pub rounds_due : {F E M : Type 0} {over : _} → FoldableMatrices F E M over → ℕ
+abbrev pub rounds_due : {F E M : Type 0} {over g : _} → FoldableMatrices F E M over g → ℕ
 rounds_due o =
     top_of (seen o) - 1 - o.params.now.log_blowup - o.params.now.log_final_poly_len
 
-module _ {F E M Com D : Type 0} {over : _} (o : FoldableMatrices F E M over) where
+module _ {F E M Com D : Type 0} {over g : _} (o : FoldableMatrices F E M over g) where
   -- under the challenges of a layer: what a codeword folds into by y, and the codeword of a round
   abbrev pub fold_of : FoldedLayer F E Com D → ℕ → List E
   fold_of l = first_fold over.fields o.params.now.log_blowup (seen o) l.alpha l.bivariate

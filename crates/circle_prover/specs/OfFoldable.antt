@@ -23,7 +23,7 @@ use Rattle.circle_prover.specs.Words.{AreMade, heights_of, layer_of, taken_in}
 use Rattle.circle_prover.specs.declared.foldable.FoldableMatrices.{FoldableMatrices}
 use Rattle.circle_prover.specs.declared.run.CommittedWords.{CommittedWords}
 
-module _ {F E M : Type 0} {over : _} (o : FoldableMatrices F E M over) where
+module _ {F E M : Type 0} {over g : _} (o : FoldableMatrices F E M over g) where
   abbrev pub fields_of : Fields F E
   fields_of = over.fields
 
@@ -54,7 +54,7 @@ module _ {F E M : Type 0} {over : _} (o : FoldableMatrices F E M over) where
 
   -- why a run over claims is not played to its end: from a transcript that has begun, or from a
   -- challenger that is seeded with its shape
-  module _ {C S Com : Type 0} {g : _} (r : RunMoves C S F E Com)
+  module _ {C S Com : Type 0} (r : RunMoves C S F E Com)
       (Commits : M → List (RowMajorMatrix E) → Com → Type 0)
       (claims : List (Point E g × Bor (List E))) where
     abbrev pub IsRunFailure :

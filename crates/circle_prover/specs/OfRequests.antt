@@ -1,13 +1,18 @@
 -- Requests that can be opened, as clauses see them. The dictionaries of their fields and of their
 -- schemes are arguments of their type: the definitions of this page read them off the requests.
-use Rattle.std.specs.Prelude.{◌≡◌, ◌⊎◌, List, Result, Ok, Err, MatchResult, Vec}
+use Rattle.std.specs.Prelude.{◌≡◌, ℕ, ◌⊎◌, ◌<◌, ◌++◌, List, map, flat_map, zip, All, Result, Ok, Err}
+use Rattle.std.specs.Prelude.{MatchResult, Vec}
 use Rattle.std.specs.List.{AllZip}
 use Rattle.std.specs.declared.alloc.Global.{Global}
 use Rattle.circle_challenger.specs.Moves.{RunMoves}
-use Rattle.circle_codewords.specs.Requests.{AreAllRequested, AreAnswered, AreBatchValues}
-use Rattle.circle_codewords.specs.Requests.{IsOpenable}
-use Rattle.circle_codewords.specs.Words.{Committed}
+use Rattle.circle_codewords.specs.Points.{coordinates_of}
+use Rattle.circle_codewords.specs.Requests.{AreAllRequested, AreAnswered, AreValuesOf, IsOpenable}
+use Rattle.circle_codewords.specs.Requests.{committed, points_of}
+use Rattle.circle_codewords.specs.Words.{Committed, committed_of}
+use Rattle.circle_codewords.specs.declared.matrix.MatrixAtPoints.{MatrixAtPoints}
 use Rattle.circle_codewords.specs.declared.matrix.OpenedMatrix.{OpenedMatrix}
+use Rattle.circle_codewords.specs.declared.points.OpeningPoint.{OpeningPoint}
+use Rattle.circle_commit.specs.DotProduct.{pairwise}
 use Rattle.circle_commit.specs.Pcs.{Openings, openings}
 use Rattle.circle_commit.specs.declared.matrix.RowMajorMatrix.{RowMajorMatrix}
 use Rattle.circle_commit.specs.declared.params.FriParameters.{FriParameters}
@@ -46,6 +51,34 @@ abbrev pub IsRequestOf : {F E I W IC ID IP IE WC WD WP WE : Type 0}
 IsRequestOf mmcs p requests o =
     (o.mmcs.now ≡ mmcs) × (o.params.now ≡ p) × (o.requests.now ≡ requests)
 
+-- a list begins with another; what is left of it without that
+abbrev pub BeginsWith : {A : Type 0} → List A → List A → Type 0
+BeginsWith {A = A} first all = (tail : List A) × (all ≡ first ++ tail)
+
+abbrev pub Leaves : {A : Type 0} → List A → List A → List A → Type 0
+Leaves {A = A} first all rest = (tail : List A) → all ≡ first ++ tail → rest ≡ tail
+
+-- a matrix with the coordinates of its points, as it is asked for
+abbrev pub asked_of : {F E : Type 0} {over g : _} → MatrixAtPoints F E over g
+    → RowMajorMatrix F × List E
+asked_of m = (m.rows.now, coordinates_of m.points.now)
+
+-- these are the values of matrices at their points
+abbrev pub AreValuesOfEach : {F E : Type 0} {over g : _} → ℕ → List (MatrixAtPoints F E over g)
+    → List (List (List E)) → Type 0
+AreValuesOfEach {over = over} blowup matrices values =
+    AllZip (λ a v. AreValuesOf over.fields blowup a.0 a.1 v) (map asked_of matrices) values
+
+-- the matrices of a request with these; kept of what a committer keeps are the matrices
+abbrev pub asked_in : {D F E : Type 0} → (D → List (RowMajorMatrix F)) → OpeningRequest D E
+    → List (RowMajorMatrix F × List E)
+asked_in kept r = zip (kept r.prover_data.now) (points_of kept r)
+
+-- to a list of matrices with points those of a batch were added
+abbrev pub AddsAsked : {F E : Type 0} {over g : _} → List (RowMajorMatrix F) → List (List E)
+    → List (MatrixAtPoints F E over g) → List (MatrixAtPoints F E over g) → Type 0
+AddsAsked matrices points old new = map asked_of new ≡ map asked_of old ++ zip matrices points
+
 -- I and W are the schemes of the batches and of the codewords, each with its commitments, data,
 -- proofs and errors; what is known of the fields is in `over`, what is of the schemes in `inputs`
 -- and `words`
@@ -55,15 +88,38 @@ module _ {F E I W IC ID IP IE WC WD WP WE : Type 0} {over inputs ic ip ie words 
     abbrev pub fields_of : Fields F E
     fields_of = over.fields
 
-    -- matrices of a batch can be opened at these points, of which there is a list for each; these
-    -- are their values there
+    -- matrices of a batch can be opened at these points, of which there is a list for each
     abbrev pub AreOpenableAt : List (RowMajorMatrix F) → List (List E) → Type 0
     AreOpenableAt =
         AllZip (IsOpenable over.fields over.fields.two_adicity o.params.now.log_blowup)
 
-    abbrev pub AreValuesAt : List (RowMajorMatrix F) → List (List E) → List (List (List E))
-        → Type 0
-    AreValuesAt = AreBatchValues over.fields o.params.now.log_blowup
+    -- these are the values of matrices at points
+    abbrev pub AreValued : List (RowMajorMatrix F × List E) → List (List (List E)) → Type 0
+    AreValued = AllZip (λ a v. AreValuesOf over.fields o.params.now.log_blowup a.0 a.1 v)
+
+    module _ {g : _} where
+      -- these are the points of all requests; these matrices leave something without the blowup;
+      -- these are the matrices of all requests with their points
+      abbrev pub ArePointsOf : List (OpeningPoint E g) → Type 0
+      ArePointsOf points =
+          coordinates_of points
+          ≡ flat_map (λ r. flat_map (λ v. v.items) r.points.items) o.requests.now
+
+      abbrev pub AreHigh : List (MatrixAtPoints F E over g) → Type 0
+      AreHigh matrices = All (λ m. o.params.now.log_blowup < m.log_height) matrices
+
+      abbrev pub AreMatricesAt : List (MatrixAtPoints F E over g) → Type 0
+      AreMatricesAt matrices =
+          (map asked_of matrices ≡ flat_map (asked_in inputs.matrices) o.requests.now)
+          × AreHigh matrices
+
+      -- to a list of matrices that are opened these were added with their values
+      abbrev pub AddsOpened : List (RowMajorMatrix F × List E) → List (List (List E))
+          → List (OpenedMatrix F E over g) → List (OpenedMatrix F E over g) → Type 0
+      AddsOpened asked values old new =
+          let read = committed_of over.fields o.params.now.log_blowup in
+          map read new ≡ map read old
+          ++ pairwise (λ a v. committed over.fields o.params.now.log_blowup a.0 a.1 v) asked values
 
     module _ (values : Openings E) where
       -- these are the values that the requests are for
@@ -75,7 +131,7 @@ module _ {F E I W IC ID IP IE WC WD WP WE : Type 0} {over inputs ic ip ie words 
       seen_with =
           answered_matrices over.fields o.params.now inputs.matrices o.requests.now values
 
-      abbrev pub AreMatricesWith : List (OpenedMatrix F E over) → Type 0
+      abbrev pub AreMatricesWith : {g : _} → List (OpenedMatrix F E over g) → Type 0
       AreMatricesWith =
           AreAllRequested inputs.matrices over.fields o.params.now.log_blowup o.requests.now
           values

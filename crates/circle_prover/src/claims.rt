@@ -1,27 +1,24 @@
 //! Requested matrices with the values that are returned, as an opening and its transcript absorb
 //! them.
-ghost use Rattle.std.specs.Prelude.{ℕ, ◌≡◌, ◌++◌, All, IfOk, OnOk};
+ghost use Rattle.std.specs.Prelude.{ℕ, ◌≡◌, ◌++◌, IfOk, OnOk};
 ghost use Rattle.std.specs.Prelude.{length, map, flat_map};
 ghost use Rattle.circle_commit.specs.Mmcs.{opened_rows};
 ghost use Rattle.circle_commit.specs.Pcs.{openings};
 ghost use Rattle.circle_commit.specs.DotProduct.{pairwise};
-ghost use Rattle.circle_domain.specs.Selectors.{IsFinite};
 ghost use Rattle.circle_transcript.specs.Claims.{claims_of};
 ghost use Rattle.circle_transcript.specs.ShapeOf.{batches_of, matrices_of};
 ghost use Rattle.circle_relation.specs.Accepts.{Fields};
 ghost use Rattle.circle_codewords.specs.Words.{claim_of, committed_of};
-ghost use Rattle.circle_codewords.specs.Requests.{AddsBatch, lists_of};
-ghost use Rattle.circle_prover.specs.OfRequests.{AreAnsweredBy, AreMatricesWith, AreOpenableAt};
-ghost use Rattle.circle_prover.specs.OfRequests.{AreValuesAt, fields_of};
+ghost use Rattle.circle_codewords.specs.Points.{coordinates_of};
+ghost use Rattle.circle_codewords.specs.Requests.{lists_of};
+ghost use Rattle.circle_prover.specs.OfRequests.{AddsOpened, AreAnsweredBy, AreMatricesAt};
+ghost use Rattle.circle_prover.specs.OfRequests.{AreMatricesWith, AreValued, asked_of};
 ghost use Rattle.circle_relation.specs.Taken.{point_taken};
 
 use crate::openable::OpenableRequests;
-use circle_codewords::OpenedMatrix;
-use circle_commit::{
-    Matrix, Mmcs, OpenedValuesForMatrix, OpenedValuesForRound, RowMajorMatrix, log2_strict,
-};
+use circle_codewords::{MatrixAtPoints, OpenedMatrix, OpeningPoint};
+use circle_commit::{Mmcs, OpenedValuesForMatrix, OpenedValuesForRound};
 use circle_field::{ComplexExtendable, ExtensionField, Field};
-use circle_point::Point;
 use circle_transcript::OpeningClaim;
 use std::alloc::{AllocError, Global};
 
@@ -32,26 +29,22 @@ impl<
     InputMmcs: Mmcs<Val>,
     FriMmcs: Mmcs<EF>,
 > OpenableRequests<'a, Val, EF, InputMmcs, FriMmcs> {
-    // Adds the matrices of a batch.
-    fn push_matrices(
+    // Adds the matrices of a batch with their values.
+    fn push_opened(
         &self,
         list: &mut Vec<OpenedMatrix<'a, Val, EF>>,
-        matrices: &'a [RowMajorMatrix<Val>],
-        points: &'a [Vec<EF>],
+        matrices: &[MatrixAtPoints<'a, Val, EF>],
         values: &'a [OpenedValuesForMatrix<EF>],
     ) -> Result<(), AllocError>
-        requires fit { AreOpenableAt self.now matrices.now (lists_of points.now) }
-        requires count { length values.now ≡ length points.now }
-        requires values { AreValuesAt self.now matrices.now (lists_of points.now)
-            (opened_rows values.now) }
-        ensures { OnOk result (AddsBatch (fields_of self.now) self.now.params.now.log_blowup
-            matrices.now points.now values.now list.old.items list.new.items) }
+        requires { AreValued self.now (map asked_of matrices.now) (opened_rows values.now) }
+        ensures { OnOk result (AddsOpened self.now (map asked_of matrices.now)
+            (opened_rows values.now) list.old.items list.new.items) }
     {
-        for (matrix, (points, values)) in matrices.iter().zip(points.iter().zip(values)) {
+        for (matrix, values) in matrices.iter().zip(values) {
             list.push(OpenedMatrix {
-                log_height: log2_strict(matrix.height()),
-                rows: matrix,
-                points,
+                log_height: matrix.log_height,
+                rows: matrix.rows,
+                points: matrix.points,
                 values,
             })?;
         }
@@ -60,20 +53,25 @@ impl<
 
     /// All requested matrices with their values, one after another.
     ///
-    /// Requires the values that are returned. Fails where memory is refused.
+    /// Requires the matrices and the values that are returned. Fails where memory is refused.
     pub(crate) fn opened_matrices(
         &self,
         alloc: Global,
+        matrices: &[MatrixAtPoints<'a, Val, EF>],
         values: &'a [OpenedValuesForRound<EF>],
     ) -> Result<Vec<OpenedMatrix<'a, Val, EF>>, AllocError>
-        requires { AreAnsweredBy self.now (openings values.now) }
+        requires matrices { AreMatricesAt self.now matrices.now }
+        requires values { AreAnsweredBy self.now (openings values.now) }
         ensures { IfOk result (λ v.
             AreMatricesWith self.now (openings values.now) v.items) }
     {
-        let mut list = Vec::new(alloc);
+        let mut list = Vec::with_capacity(alloc, matrices.len())?;
+        let mut done = 0;
         for (request, values) in self.requests.iter().zip(values) {
-            let matrices = self.mmcs.get_matrices(request.prover_data);
-            self.push_matrices(&mut list, matrices, &request.points, values)?;
+            let (_, rest) = matrices.split_at(done);
+            let (batch, _) = rest.split_at(request.points.len());
+            self.push_opened(&mut list, batch, values)?;
+            done += batch.len();
         }
         Ok(list)
     }
@@ -82,15 +80,15 @@ impl<
 // Adds the claims on a matrix.
 fn append_claims<'a, EF: Field>(
     claims: &mut Vec<OpeningClaim<'a, EF>>,
-    points: &[EF],
+    points: &[OpeningPoint<EF>],
     values: &'a [Vec<EF>],
 ) -> Result<(), AllocError>
-    requires finite { All (IsFinite EF.ops) points.now }
     ensures { OnOk result (claims_of claims.new.items ≡ claims_of claims.old.items
-        ++ map (point_taken EF.ops) (pairwise claim_of points.now (lists_of values.now))) }
+        ++ map (point_taken EF.ops)
+        (pairwise claim_of (coordinates_of points.now) (lists_of values.now))) }
 {
     for (point, values) in points.iter().zip(values) {
-        claims.push((Point::from_projective_line(*point).unwrap(), values))?;
+        claims.push((point.point, values))?;
     }
     Ok(())
 }

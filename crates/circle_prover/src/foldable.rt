@@ -3,11 +3,12 @@ ghost use Rattle.std.specs.Prelude.{◌+◌, ◌≤◌, length, All};
 
 use circle_codewords::OpenedMatrix;
 use circle_commit::FriParameters;
+use circle_field::Operations;
 use circle_relation::OverCircle;
 
 /// Matrices that are opened under parameters that leave each something to fold.
 #[derive(Drop)]
-pub(crate) struct FoldableMatrices<'a, F: Copy, EF: OverCircle<F>, M> {
+pub(crate) struct FoldableMatrices<'a, F: Copy, EF: OverCircle<F> + Operations, M> {
     /// The parameters, with the commitment scheme of the codewords.
     pub params: &'a FriParameters<M>,
     /// The matrices, at least one.

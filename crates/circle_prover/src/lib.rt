@@ -51,6 +51,7 @@ mod foldable;
 pub mod heights;
 pub mod openable;
 mod openings;
+mod points;
 pub mod prove;
 pub mod requests;
 mod rounds;

@@ -5,7 +5,8 @@ ghost use Rattle.circle_relation.specs.Statement.{BatchClaim};
 ghost use Rattle.circle_relation.specs.RunOf.{proof_of};
 ghost use Rattle.circle_prover.specs.Opening.{AreEasy};
 ghost use Rattle.circle_codewords.specs.Requests.{AreHeights, OpensBatches};
-ghost use Rattle.circle_prover.specs.OfRequests.{AreAnsweredBy, AreSomeWordsOf, AreWordsWith};
+ghost use Rattle.circle_prover.specs.OfRequests.{AreAnsweredBy, AreMatricesAt, AreSomeWordsOf};
+ghost use Rattle.circle_prover.specs.OfRequests.{AreWordsWith};
 ghost use Rattle.circle_prover.specs.OfRequests.{HoldsInputsAt, HoldsWordsOf, IsFailureFrom};
 ghost use Rattle.circle_prover.specs.OfRequests.{IsOpeningBy, IsOutcome};
 ghost use Rattle.circle_relation.specs.Taken.{claims_taken, taken_by};
@@ -18,6 +19,7 @@ use crate::openable::OpenableRequests;
 use crate::openings::{open_rounds, open_rows, open_siblings};
 use crate::run::CommittedWords;
 use circle_challenger::{CanObserve, CanSample, GrindingChallenger, RunChallenger};
+use circle_codewords::MatrixAtPoints;
 use circle_commit::{
     BatchMultiOpening, FriFoldingStrategy, Mmcs, OpenedValues, OpenedValuesForRound, log2_strict,
 };
@@ -33,16 +35,17 @@ impl<
     InputMmcs: Mmcs<Val>,
     FriMmcs: Mmcs<EF>,
 > OpenableRequests<'_, Val, EF, InputMmcs, FriMmcs> {
-    // Plays the run of the requests, whose values are known.
+    // Plays the run of the requests, whose matrices and values are known.
     fn play<C>(
         &self,
         alloc: Global,
+        matrices: &[MatrixAtPoints<Val, EF>],
         values: &[OpenedValuesForRound<EF>],
         challenger: &mut C,
     ) -> Result<CommittedWords<Val, EF, FriMmcs::Commitment, FriMmcs::ProverData>, ProverError>
     where
         C: CanSample<Val> + GrindingChallenger<Val> + CanObserve<FriMmcs::Commitment>,
-        requires count { length values.now ≡ length self.now.requests.now }
+        requires matrices { AreMatricesAt self.now matrices.now }
         requires values { AreAnsweredBy self.now (openings values.now) }
         ensures below { IfOk result (λ w.
             All (λ q. q < 2 ^ w.log_max_height) w.draws.indices.items) }
@@ -52,7 +55,7 @@ impl<
         ensures outcome { let m = ⟦<C as RunChallenger<Val, EF, FriMmcs::Commitment>>⟧.run in
             IsOutcome self.now (openings values.now) m challenger.old result challenger.new }
     {
-        let matrices = self.opened_matrices(alloc, values)?;
+        let matrices = self.opened_matrices(alloc, matrices, values)?;
         let claims = opened_claims(alloc, &matrices)?;
         let widths = opened_widths(alloc, values)?;
         let extra_bits = FriFoldingStrategy::<Val, EF>::extra_query_index_bits(&CircleFriFolding);
@@ -186,8 +189,10 @@ impl<
         ensures failure { let m = ⟦<C as RunChallenger<Val, EF, FriMmcs::Commitment>>⟧.run in
             IfErr result (IsFailureFrom self.now m challenger.old) }
     {
-        let values = self.requested_values(alloc)?;
-        let words = self.play(alloc, &values, challenger)?;
+        let points = self.opening_points(alloc)?;
+        let matrices = self.matrices_at_points(alloc, &points)?;
+        let values = self.requested_values(alloc, &matrices)?;
+        let words = self.play(alloc, &matrices, &values, challenger)?;
         let proof = self.prove_words(alloc, words)?;
         Ok((values, proof))
     }

@@ -1,7 +1,7 @@
 //! What a committed column is opened to, over Mersenne31 and its cubic extension.
 use crate::off_domain::{cubic, on_line};
 use crate::transform::{MEMORY, Rows, column};
-use circle_codewords::MatrixAtPoints;
+use circle_codewords::{MatrixAtPoints, OpeningPoint};
 use circle_field::{Cubic, Field, Mersenne31};
 use circle_plane::Point;
 use std::alloc::Global;
@@ -21,7 +21,7 @@ fn opened(
     log_blowup: usize,
     log_height: usize,
     rows: &Rows,
-    points: &[Cubic],
+    points: &[OpeningPoint<Cubic>],
 ) -> Vec<Vec<Cubic>> {
     assert!(rt; log_blowup < log_height);
     let matrix = MatrixAtPoints::<Mersenne31, Cubic>::new(log_height, rows, points).expect(
@@ -54,7 +54,8 @@ fn the_weights_of_a_point_are_made_once(rt: HostRuntime) {
     let t = cubic(0, 1, 0);
     let expected = polynomial_at(on_line(&rt, t));
     let column = column(&rt, alloc, &EIGHT_BY_PAIRS);
-    let values = opened(&rt, alloc, 1, 3, &column, &[t]);
+    let point = OpeningPoint::new(t).expect(&rt, "the square of the coordinate is -1");
+    let values = opened(&rt, alloc, 1, 3, &column, &[point]);
     assert!(&rt; values.len() == 1);
     expect!(&rt; values[0].as_slice() == [expected].as_slice());
 }

@@ -14,7 +14,7 @@ loop-matrix-preserved g c =
     let m = c.matrix-item.result in
     let old = c.loop-matrix.greatest in
     let new = c.max-greatest.result in
-    let Is : OpenedMatrix g.row.F.Denot g.row.EF.Denot _ → Type 0 =
+    let Is : OpenedMatrix g.row.F.Denot g.row.EF.Denot _ g.EF.Operations → Type 0 =
     λ m. width_of m.rows.now ≤ new in
     let some : 1 ≤ height_of m.rows.now =
     omega (arith, m.openable.rows, pow_pos m.log_height) in

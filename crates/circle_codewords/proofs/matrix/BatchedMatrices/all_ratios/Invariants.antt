@@ -1,5 +1,5 @@
 use Rattle.std.proofs.Common.{◌≡◌, take, All}
-use Rattle.std.specs.List.{Any}
+use Rattle.circle_codewords.specs.OfMatrices.{HaveRatios}
 use Rattle.circle_codewords.specs.Ratios.{points_of_height, AreRatiosOf}
 use Rattle.circle_codewords.proofs.matrix.BatchedMatrices.all_ratios.Given as goal
 
@@ -9,7 +9,6 @@ invariant-loop-matrix g l = record {
       (AreRatiosOf g.EF.Operations.ops g.EF.ExtensionField.embed
       (points_of_height g.F.Operations.ops g.F.ComplexExtendable.generators l.log_height))
       l.all.items;
-  known : All (λ m. m.log_height ≡ l.log_height →
-      All (λ t. Any (λ r. r.point ≡ t) l.all.items) m.points.now) (take l.matrix-index
-      l.self.matrices.now);
+  known : All (λ m. m.log_height ≡ l.log_height → HaveRatios l.all.items m)
+      (take l.matrix-index l.self.matrices.now);
 }

@@ -13,7 +13,7 @@ invariant_of-result g c =
       blowup = c.requires;
       are_powers = are-powers l c.args.alpha n c.in_ok-powers.powers.items made;
       enough = subst
-          (λ n. All (λ (m : OpenedMatrix g.row.F.Denot g.row.EF.Denot _). width_of m.rows.now < n)
+          (λ n. All (λ (m : OpenedMatrix g.row.F.Denot g.row.EF.Denot _ _). width_of m.rows.now < n)
           c.args.matrices.now)
           (sym (length-powers l c.args.alpha n c.in_ok-powers.powers.items made))
           c.above_widths.ensures;

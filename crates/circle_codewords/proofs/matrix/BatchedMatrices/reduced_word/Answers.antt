@@ -1,6 +1,6 @@
 use Rattle.std.proofs.Common.{◌≡◌, ◌<◌, ◌≤◌, ◌+◌, ◌^◌, ◌++◌, ℕ, List, [], ◌∙◌, if◌then◌else◌, sym}
 use Rattle.std.proofs.Common.{ap, subst, arith, map, take, length, slice_index_or, All, replicate}
-use Rattle.std.specs.List.{Any, range_with_len}
+use Rattle.std.specs.List.{range_with_len}
 use Rattle.std.proofs.lemmas.Bool.{eq-eqb, ne_eqb}
 use Rattle.std.proofs.lemmas.List.{take_all, length-map, get_or-map, ext_get_or, length-replicate}
 use Rattle.std.proofs.lemmas.List.{get_or-replicate}
@@ -9,7 +9,7 @@ use Rattle.circle_commit.specs.RowMajorMatrix.{width_of}
 use Rattle.circle_field.specs.Circle.{origin}
 use Rattle.circle_field.proofs.Inverses.{take-whole}
 use Rattle.circle_domain.proofs.Powers.{pow_within}
-use Rattle.circle_codewords.specs.OfMatrices.{fields_of}
+use Rattle.circle_codewords.specs.OfMatrices.{HaveRatios, fields_of}
 use Rattle.circle_relation.specs.Sums.{reduced, Adds}
 use Rattle.circle_relation.proofs.ReducedSums.{adds-none, adds-both, adds-same, adds-all}
 use Rattle.circle_codewords.specs.Ratios.{points_of_height, AreRatiosOf}
@@ -23,11 +23,9 @@ use Rattle.circle_codewords.proofs.matrix.BatchedMatrices.reduced_word.Goals.{el
 
 pub add_matrix-requires-clause-known : goal.add_matrix-requires-clause-known
 add_matrix-requires-clause-known g c =
-    let Known : List (PointRatios g.row.EF.Denot) → OpenedMatrix g.row.F.Denot g.row.EF.Denot _ →
-    Type 0 = λ all o. All (λ t. Any (λ r. r.point ≡ t) all) o.points.now in
-    let Due : OpenedMatrix g.row.F.Denot g.row.EF.Denot _ → Type 0 = λ o. o.log_height
-    ≡ c.args.log_height → Known c.in_ok-ratios.ratios.items o in
-    subst (λ all. Known all c.matrix-item.result) (sym c.deref.ensures.value)
+    let Due : OpenedMatrix g.row.F.Denot g.row.EF.Denot _ _ → Type 0 = λ o. o.log_height
+    ≡ c.args.log_height → HaveRatios c.in_ok-ratios.ratios.items o in
+    subst (λ all. HaveRatios all c.matrix-item.result) (sym c.deref.ensures.value)
     (subst Due (sym c.matrix-item.is)
     (c.in_ok-ratios.ensures.known c.loop-matrix.matrix-index c.matrix-item.result
     c.loop-matrix-test.true) c.if-matrix-log_height.true)
@@ -35,7 +33,7 @@ add_matrix-requires-clause-known g c =
 pub add_matrix-requires-clause-enough : goal.add_matrix-requires-clause-enough
 add_matrix-requires-clause-enough g c =
     subst
-    (λ (m : OpenedMatrix g.row.F.Denot g.row.EF.Denot _). width_of m.rows.now <
+    (λ (m : OpenedMatrix g.row.F.Denot g.row.EF.Denot _ _). width_of m.rows.now <
     length c.args.self.now.powers.items) (sym c.matrix-item.is)
     (c.args.self.now.enough c.loop-matrix.matrix-index c.matrix-item.result
     c.loop-matrix-test.true)

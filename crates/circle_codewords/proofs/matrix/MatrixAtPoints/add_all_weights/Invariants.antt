@@ -5,5 +5,5 @@ use Rattle.circle_codewords.proofs.matrix.MatrixAtPoints.add_all_weights.Given a
 
 abbrev pub invariant-loop-point : goal.invariant-loop-point
 invariant-loop-point g l =
-    All (λ t. Any (IsFor l.log_blowup l.self.log_height t) l.all.items)
+    All (λ p. Any (IsFor l.log_blowup l.self.log_height p.coordinate) l.all.items)
     (take l.point-index l.self.points.now)

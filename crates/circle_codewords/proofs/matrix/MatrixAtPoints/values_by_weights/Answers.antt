@@ -2,6 +2,7 @@ use Rattle.std.proofs.Common.{◌≡◌, ◌≤◌, ◌-◌, ◌+◌, ◌*◌, �
 use Rattle.std.proofs.Common.{length, map, take, List}
 use Rattle.std.specs.Borrow.{Bor}
 use Rattle.std.proofs.lemmas.List.{length-map, length-take-le}
+use Rattle.std.proofs.lemmas.Slice.Zip.{AllZip-long}
 use Rattle.circle_field.specs.Circle.{Coordinates}
 use Rattle.circle_commit.specs.RowMajorMatrix.{rows, length-rows}
 use Rattle.circle_commit.specs.RowMajorMatrixView.{rows as view_rows}
@@ -13,10 +14,13 @@ use Rattle.circle_domain.proofs.Powers.{pow_within}
 use Rattle.circle_plane.specs.Coefficients.{AreValuesBy}
 use Rattle.circle_point.specs.Projective.{from_line}
 use Rattle.circle_codewords.specs.OfMatrices.{AreWeightsFor, fields_at}
+use Rattle.circle_codewords.specs.Points.{coordinates_of}
 use Rattle.circle_codewords.specs.Values.{OpensTo}
+use Rattle.circle_codewords.specs.declared.points.OpeningPoint.{OpeningPoint}
 use Rattle.circle_codewords.proofs.Opened.{if_ok, counted, opens}
+use Rattle.circle_codewords.proofs.AtPoints.{AllZip-onto}
 use Rattle.circle_codewords.proofs.Prefix.{first-genuine}
-use Rattle.circle_codewords.proofs.Zips.{zip-length, zip-read, zip-second, zip-through}
+use Rattle.circle_codewords.proofs.Zips.{zip-read, zip-second, zip-through}
 use Rattle.circle_domain.specs.declared.lagrange.LagrangeWeights.{LagrangeWeights}
 use Rattle.circle_codewords.proofs.matrix.MatrixAtPoints.values_by_weights.Goals as goal
 
@@ -72,7 +76,7 @@ evaluate_by_each_weights-requires-clause-count g c =
     ap log_size c.from_cfft_order.ensures.domain ∙ c.first_domain-domain.ensures.size in
     zip-second (AreWeightsFor m c.args.log_blowup)
     (λ w. length w.now.shares.items ≡ 2 ^ log_size c.from_cfft_order.result.domain)
-    (λ t w are. are.count ∙ ap (λ n. 2 ^ n) (sym size)) m.points.now c.args.weights.now
+    (λ p w are. are.count ∙ ap (λ n. 2 ^ n) (sym size)) m.points.now c.args.weights.now
     c.requires.right
 
 pub returns-clause-count : goal.returns-clause-count
@@ -81,13 +85,11 @@ returns-clause-count g c =
     let given = c.from_cfft_order.result.values in
     if_ok c.evaluate_by_each_weights.result _ _ (λ made all.
     sym (length-map made.items (λ v. v.items))
-    ∙ sym
-    (zip-length (λ w. AreValuesBy g.F.Operations.ops g.F.ComplexExtendable.generators
+    ∙ AllZip-long (λ w. AreValuesBy g.F.Operations.ops g.F.ComplexExtendable.generators
     g.EF.Operations.ops g.EF.ExtensionField.embed d given.width (view_rows given) w.now)
-    c.args.weights.now (map (λ v. v.items) made.items) all)
-    ∙ sym
-    (zip-length (AreWeightsFor c.args.self.now c.args.log_blowup) c.args.self.now.points.now
-    c.args.weights.now c.requires.right))
+    c.args.weights.now (map (λ v. v.items) made.items) all
+    ∙ AllZip-long (AreWeightsFor c.args.self.now c.args.log_blowup) c.args.self.now.points.now
+    c.args.weights.now c.requires.right)
     c.evaluate_by_each_weights.ensures.values
 
 pub returns-clause-values : goal.returns-clause-values
@@ -99,6 +101,7 @@ returns-clause-values g c =
     let small = counted n (omega (arith, top, g.met.F.ComplexExtendable.at_most_62)) in
     let m = c.args.self.now.rows.now in
     let points = c.args.self.now.points.now in
+    let coordinate = λ (p : OpeningPoint g.row.EF.Denot _). p.coordinate in
     let d = c.from_cfft_order.result.domain in
     let size : log_size d ≡ n = ap log_size c.from_cfft_order.ensures.domain
     ∙ c.first_domain-domain.ensures.size in
@@ -110,18 +113,20 @@ returns-clause-values g c =
     let Opened = OpensTo k c.args.log_blowup h m in
     if_ok c.evaluate_by_each_weights.result _ _ (λ made all i t lt.
     let values = map (λ v. v.items) made.items in
-    zip-read Opened points values i t _
-    (zip-through (AreWeightsFor c.args.self.now c.args.log_blowup) By Opened (λ t w found are by.
-    let q = from_line k.extension t in
+    zip-read Opened (coordinates_of points) values i t _
+    (AllZip-onto Opened coordinate points values
+    (zip-through (AreWeightsFor c.args.self.now c.args.log_blowup) By
+    (λ p. Opened (coordinate p)) (λ p w found are by.
+    let q = from_line k.extension (coordinate p) in
     let Sum : ℕ → Coordinates g.row.F.Denot → Type 0 =
     λ a s. AreLagrangeWeights k.extension k.embed k.field a (cfft_order k.field k.gen a s) q
     w.now.shares.items w.now.scale in
     let weighed : Sum (log_size d) (shift_of d) =
     subst (λ a. Sum a (shift_of d)) (sym size) (subst (Sum n) (sym shift) are.sum) in
     let at = by q weighed in
-    opens k c.args.log_blowup h m t found (log_size d) (shift_of d) _ _ at.coeffs size shift
-    (ap (λ v. v.width) c.from_cfft_order.ensures.values ∙ c.split_rows.ensures.widths.0)
+    opens k c.args.log_blowup h m (coordinate p) found (log_size d) (shift_of d) _ _ at.coeffs size
+    shift (ap (λ v. v.width) c.from_cfft_order.ensures.values ∙ c.split_rows.ensures.widths.0)
     (ap view_rows c.from_cfft_order.ensures.values ∙ c.split_rows.ensures.first
     ∙ ap (λ a. take a (rows m)) small) at.told at.at_point)
-    points c.args.weights.now values c.requires.right all) lt)
+    points c.args.weights.now values c.requires.right all)) lt)
     c.evaluate_by_each_weights.ensures.values

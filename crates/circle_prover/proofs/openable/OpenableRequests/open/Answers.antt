@@ -10,10 +10,11 @@ use Rattle.circle_relation.specs.Taken.{challenges_of, claims_taken, shape_by, t
 use Rattle.circle_transcript.specs.Runs.{drawn_of}
 use Rattle.circle_transcript.proofs.Playing.{handed_on}
 use Rattle.circle_codewords.specs.Requests.{AreHeights, HasBatchRows}
-use Rattle.circle_prover.specs.OfRequests.{AreAnsweredBy, IsFailureFrom, IsOpeningBy, claims_with}
+use Rattle.circle_prover.specs.OfRequests.{AreAnsweredBy, AreMatricesAt, ArePointsOf, IsFailureFrom}
+use Rattle.circle_prover.specs.OfRequests.{IsOpeningBy, claims_with}
 use Rattle.circle_prover.specs.OfRequests.{seen_with}
 use Rattle.circle_prover.specs.Words.{taken_in}
-use Rattle.circle_prover.proofs.KnownRequests.{are-tall, heights-with, top-low, values-count}
+use Rattle.circle_prover.proofs.KnownRequests.{are-tall, heights-with, top-low}
 use Rattle.circle_prover.proofs.Stuck.{draw-moved}
 use Rattle.circle_prover.proofs.openable.OpenableRequests.open.Given.{Over}
 use Rattle.circle_prover.proofs.openable.OpenableRequests.open.Goals as goal
@@ -28,20 +29,27 @@ challenger g = run_moves g.C.ChallengerState.state g.C.CanObserve-1.after_observ
     g.EF.ExtensionField.DEGREE g.EF.ExtensionField.coefficients (of_nat g.Val.Operations.ops)
     g.Val.Operations.ops.zero
 
-pub play-requires-clause-count : goal.play-requires-clause-count
-play-requires-clause-count g c =
-    ap length c.deref.ensures.value
-    ∙ values-count c.args.self.now c.in_ok-values.values.items c.in_ok-values.ensures
+pub matrices_at_points-requires : goal.matrices_at_points-requires
+matrices_at_points-requires g c =
+    subst (ArePointsOf c.args.self.now) (sym c.deref.ensures.value) c.in_ok-points.ensures
+
+pub requested_values-requires : goal.requested_values-requires
+requested_values-requires g c =
+    subst (AreMatricesAt c.args.self.now) (sym c.deref-2.ensures.value) c.in_ok-matrices.ensures
+
+pub play-requires-clause-matrices : goal.play-requires-clause-matrices
+play-requires-clause-matrices g c =
+    subst (AreMatricesAt c.args.self.now) (sym c.deref-3.ensures.value) c.in_ok-matrices.ensures
 
 pub play-requires-clause-values : goal.play-requires-clause-values
 play-requires-clause-values g c =
-    subst (λ vs. AreAnsweredBy c.args.self.now (openings vs)) (sym c.deref.ensures.value)
+    subst (λ vs. AreAnsweredBy c.args.self.now (openings vs)) (sym c.deref-4.ensures.value)
     c.in_ok-values.ensures
 
 pub prove_words-requires-clause-top : goal.prove_words-requires-clause-top
 prove_words-requires-clause-top g c =
     let values = openings c.in_ok-values.values.items in
-    let known = rw c.deref.ensures.value at c.in_ok-words.ensures.words in
+    let known = rw c.deref-4.ensures.value at c.in_ok-words.ensures.words in
     let low = top-low c.args.self.now values c.in_ok-values.ensures in
     omega (arith, low, known.top, g.met.Val.ComplexExtendable.at_most_62)
 
@@ -49,7 +57,7 @@ pub prove_words-requires-clause-heights : goal.prove_words-requires-clause-heigh
 prove_words-requires-clause-heights g c =
     let o = c.args.self.now in
     let values = openings c.in_ok-values.values.items in
-    let known = rw c.deref.ensures.value at c.in_ok-words.ensures.words in
+    let known = rw c.deref-4.ensures.value at c.in_ok-words.ensures.words in
     subst
     (λ t. All
     (λ (r : OpeningRequest g.row.InputMmcs-ProverData.Denot g.row.EF.Denot). AreHeights t
@@ -62,7 +70,7 @@ prove_words-requires-clause-words g c =
     let values = openings c.in_ok-values.values.items in (
       seen_with o values,
       are-tall o values c.in_ok-values.ensures,
-      rw c.deref.ensures.value at c.in_ok-words.ensures.words,
+      rw c.deref-4.ensures.value at c.in_ok-words.ensures.words,
     )
 
 pub returns-clause-proof : goal.returns-clause-proof
@@ -70,7 +78,7 @@ returns-clause-proof g c =
     let o = c.args.self.now in
     let r = challenger g in
     let values = openings c.in_ok-values.values.items in
-    let known = rw c.deref.ensures.value at c.in_ok-words.ensures.words in
+    let known = rw c.deref-4.ensures.value at c.in_ok-words.ensures.words in
     let w = c.in_ok-words.words in
     let proof = proof_of c.in_ok-proof.proof in
     let claims = claims_with o values in
@@ -84,7 +92,7 @@ returns-clause-proof g c =
           (g.C.ChallengerState.state c.args.challenger.now)
           (Ok (drawn_of g.EF.ExtensionField.coefficients w.draws end)) refl
           (sym (c.in_ok-proof.ensures.taken claims))
-          (rw c.deref.ensures.value at c.in_ok-words.ensures.outcome);
+          (rw c.deref-4.ensures.value at c.in_ok-words.ensures.outcome);
       words = c.in_ok-proof.ensures.words (seen_with o values) known c.in_ok-words.ensures.easy;
       inputs =
           subst
@@ -101,7 +109,7 @@ returns-in_err-words-clause-failure g c =
     handed_on c.from_residual-in_err-words.result c.in_err-words.field-0.0
     (IsFailureFrom o (challenger g) c.args.challenger.now)
     c.from_residual-in_err-words.ensures.1
-    (elim (rw c.deref.ensures.value at c.in_err-words.ensures.outcome) [
+    (elim (rw c.deref-4.ensures.value at c.in_err-words.ensures.outcome) [
       | inl refused ↦ inl refused
       | inr rest ↦ inr (values, c.in_ok-values.ensures, rest)
     ])

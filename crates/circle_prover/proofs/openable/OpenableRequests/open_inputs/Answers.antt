@@ -9,7 +9,7 @@ use Rattle.circle_commit.specs.declared.pcs.OpeningRequest.{OpeningRequest}
 use Rattle.circle_relation.specs.RunOf.{opened_batch}
 use Rattle.circle_codewords.specs.Openings.{OpensRows, places_of}
 use Rattle.circle_codewords.specs.Requests.{AreHeights, HasBatchRows, log_of}
-use Rattle.circle_prover.proofs.Zipped.{AllZip-more}
+use Rattle.circle_prover.proofs.Requested.{pushed-more}
 use Rattle.circle_prover.proofs.openable.OpenableRequests.open_inputs.Goals as goal
 
 pub log2_strict-log_height-requires : goal.log2_strict-log_height-requires
@@ -95,15 +95,12 @@ loop-request-preserved g c =
     (λ n. OpensRows Commits authenticates matrices (places_of (top - n) queries)
     (opened_batch opening).entries (opened_batch opening).proof) is
     c.in_ok-opened_values.ensures in
-    subst (λ xs. AllZip R xs (map opened_batch c.push.new.self.items))
-    (sym (take_more c.args.self.now.requests.now i r c.loop-request-test.true
-    ∙ ap (λ q. take i c.args.self.now.requests.now ++ q ∷ []) (sym c.request-item.is)))
-    (subst (AllZip R (take i c.args.self.now.requests.now ++ r ∷ []))
+    subst (AllZip R (take (i + 1) c.args.self.now.requests.now))
     (sym (ap (map opened_batch) c.in_ok-push.ensures.items
     ∙ map-append opened_batch c.loop-request.openings.items (opening ∷ [])))
-    (AllZip-more R (take i c.args.self.now.requests.now)
-    (map opened_batch c.loop-request.openings.items) r (opened_batch opening)
-    c.loop-request.invariant here))
+    (pushed-more R c.args.self.now.requests.now i r
+    (map opened_batch c.loop-request.openings.items) (opened_batch opening)
+    c.loop-request-test.true c.request-item.is c.loop-request.invariant here)
 
 pub returns : goal.returns
 returns g c =

@@ -1,17 +1,19 @@
-use Rattle.std.proofs.Common.{◌≡◌, ◌++◌, length, map, take}
-use Rattle.circle_commit.specs.Mmcs.{opened_rows}
-use Rattle.circle_prover.specs.OfRequests.{fields_of}
-use Rattle.circle_codewords.specs.Words.{committed_of}
-use Rattle.circle_codewords.specs.Requests.{batch_committed, lists_of}
+use Rattle.std.proofs.Common.{◌≡◌, ◌++◌, List, drop, flat_map, length, map, take}
+use Rattle.std.specs.Prelude.{zip}
+use Rattle.circle_codewords.specs.Points.{coordinates_of}
+use Rattle.circle_codewords.specs.Requests.{lists_of}
+use Rattle.circle_prover.specs.OfRequests.{AreHigh, asked_of}
 use Rattle.circle_prover.proofs.openable.OpenableRequests.push_matrices.Given as goal
 
--- the matrices so far are there
+-- the matrices so far are there, and the points of the others are left
 abbrev pub invariant-loop-matrix : goal.invariant-loop-matrix
 invariant-loop-matrix g l =
-    let k = fields_of l.self in
-    let b = l.self.params.now.log_blowup in
     let i = length l.yielded in
-    map (committed_of k b) l.list.items
-    ≡ map (committed_of k b) l.initial.list.items
-    ++ batch_committed k b (take i l.matrices) (take i (lists_of l.points))
-    (take i (opened_rows l.values))
+    record {
+      list : map asked_of l.list.items
+          ≡ map asked_of l.initial.list.items ++ take i (zip l.matrices (lists_of l.coordinates));
+      high : AreHigh l.self l.initial.list.items → AreHigh l.self l.list.items;
+      rest : (tail : List _) →
+          coordinates_of l.points ≡ flat_map (λ v. v.items) l.coordinates ++ tail →
+          coordinates_of l.rest ≡ flat_map (λ v. v.items) (drop i l.coordinates) ++ tail;
+    }
