@@ -1,5 +1,5 @@
 //! The points of requests, each made of its coordinate once, and the matrices with them.
-ghost use Rattle.std.specs.Prelude.{◌≡◌, ◌++◌, All, IfOk, OnOk, flat_map};
+ghost use Rattle.std.specs.Prelude.{◌≡◌, ◌++◌, All, IfOk, OnOk, flat_map, length};
 ghost use Rattle.circle_domain.specs.Selectors.{IsFinite};
 ghost use Rattle.circle_codewords.specs.Points.{coordinates_of};
 ghost use Rattle.circle_codewords.specs.Requests.{lists_of};
@@ -104,7 +104,8 @@ impl<
         alloc: Global,
         points: &'a [OpeningPoint<EF>],
     ) -> Result<Vec<MatrixAtPoints<'a, Val, EF>>, AllocError>
-        requires { ArePointsOf self.now points.now }
+        requires points { ArePointsOf self.now points.now }
+        requires count { length points.now ≡ length (coordinates_of points.now) }
         ensures { IfOk result (λ v. AreMatricesAt self.now v.items) }
     {
         let mut list = Vec::new(alloc);

@@ -6,7 +6,7 @@ ghost use Rattle.circle_relation.specs.RunOf.{proof_of};
 ghost use Rattle.circle_prover.specs.Opening.{AreEasy};
 ghost use Rattle.circle_codewords.specs.Requests.{AreHeights, OpensBatches};
 ghost use Rattle.circle_prover.specs.OfRequests.{AreAnsweredBy, AreMatricesAt, AreSomeWordsOf};
-ghost use Rattle.circle_prover.specs.OfRequests.{AreWordsWith};
+ghost use Rattle.circle_prover.specs.OfRequests.{AreHigh, AreWordsWith};
 ghost use Rattle.circle_prover.specs.OfRequests.{HoldsInputsAt, HoldsWordsOf, IsFailureFrom};
 ghost use Rattle.circle_prover.specs.OfRequests.{IsOpeningBy, IsOutcome};
 ghost use Rattle.circle_relation.specs.Taken.{claims_taken, taken_by};
@@ -178,7 +178,8 @@ impl<
     >
     where
         C: CanSample<Val> + GrindingChallenger<Val> + CanObserve<FriMmcs::Commitment>,
-        requires { AreMatricesAt self.now matrices.now }
+        requires matrices { AreMatricesAt self.now matrices.now }
+        requires high { AreHigh self.now matrices.now }
         ensures values { IfOk result (λ r. AreAnsweredBy self.now (openings r.0.items)) }
         ensures proof { let m = ⟦<C as RunChallenger<Val, EF, FriMmcs::Commitment>>⟧.run in
             IfOk result (λ r. IsOpeningBy self.now m challenger.old r challenger.new) }
