@@ -51,10 +51,7 @@ impl<
 > OpenableRequests<'a, Val, EF, InputMmcs, FriMmcs> {
     /// The points of all requests, in the order batch, matrix, point. Fails where memory is
     /// refused.
-    pub(crate) fn opening_points(
-        &self,
-        alloc: Global,
-    ) -> Result<Vec<OpeningPoint<EF>>, AllocError>
+    pub(crate) fn opening_points(&self, alloc: Global) -> Result<Vec<OpeningPoint<EF>>, AllocError>
         ensures { IfOk result (λ v. ArePointsOf self.now v.items) }
     {
         let mut list = Vec::new(alloc);
@@ -74,8 +71,7 @@ impl<
         points: &'a [OpeningPoint<EF>],
     ) -> Result<&'a [OpeningPoint<EF>], AllocError>
         requires fit { AreOpenableAt self.now matrices.now (lists_of coordinates.now) }
-        requires front {
-            BeginsWith (flat_map (λ v. v.items) coordinates.now) (coordinates_of points.now) }
+        requires front { BeginsWith (flat_map (λ v. v.items) coordinates.now) (coordinates_of points.now) }
         ensures list { IfOk result (λ rest.
             AddsAsked matrices.now (lists_of coordinates.now) list.old.items list.new.items) }
         ensures high { IfOk result (λ rest.
