@@ -193,19 +193,16 @@ module _ {F E : Type 0} (k : Fields F E) (blowup : ℕ) where
       sym (ap log_of can.rows ∙ log_of-power h (let low = can.in_group in omega (arith, low, most)))
 
   -- a matrix of a batch with its points and the values there, as codewords read it
-  pub committed-is : {over g : _} (o : OpenedMatrix F E over g) → o.log_height
-      ≡ log_of (height_of o.rows.now) → committed_of k blowup o
-      ≡ committed k blowup o.rows.now (coordinates_of o.points.now) (lists_of o.values.now)
-  committed-is o log =
-      let ps = coordinates_of o.points.now in
-      let made : ℕ → List (PointClaim E) → Committed F E = λ h claims. record {
-        log_height = h;
-        rows = read_rows k blowup h (width_of o.rows.now) (rows o.rows.now);
-        claims = claims;
-      } in
-      ap (λ h. made h (pairwise (λ t v. claim_of t v.items) ps o.values.now)) log
-      ∙ ap (made (log_of (height_of o.rows.now)))
-      (pairwise-map claim_of (λ v. v.items) ps o.values.now)
+  abbrev made-of : ℕ → RowMajorMatrix F → List (PointClaim E) → Committed F E
+  made-of h m claims =
+      record { log_height = h; rows = read_rows k blowup h (width_of m) (rows m); claims = claims }
+
+  pub committed-is : (h : ℕ) (m : RowMajorMatrix F) (ps : List E) (vs : List (Vec E Global)) →
+      h ≡ log_of (height_of m) →
+      made-of h m (pairwise (λ t v. claim_of t v.items) ps vs) ≡ committed k blowup m ps (lists_of vs)
+  committed-is h m ps vs log =
+      ap (λ n. made-of n m (pairwise (λ t v. claim_of t v.items) ps vs)) log
+      ∙ ap (made-of (log_of (height_of m)) m) (pairwise-map claim_of (λ v. v.items) ps vs)
 
   -- a batch, by its matrices with their points
   pub batch-committed : (ms : List (RowMajorMatrix F)) (points : List (List E))

@@ -36,7 +36,8 @@ impl<
         matrices: &[MatrixAtPoints<'a, Val, EF>],
         values: &'a [OpenedValuesForMatrix<EF>],
     ) -> Result<(), AllocError>
-        requires { AreValued self.now (map asked_of matrices.now) (opened_rows values.now) }
+        requires count { length values.now ≡ length matrices.now }
+        requires valued { AreValued self.now (map asked_of matrices.now) (opened_rows values.now) }
         ensures { OnOk result (AddsOpened self.now (map asked_of matrices.now)
             (opened_rows values.now) list.old.items list.new.items) }
     {

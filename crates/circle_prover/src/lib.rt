@@ -29,7 +29,8 @@
 //! there is reason for, and allocates nothing. `OpenableRequests::open` requires nothing.
 //!
 //! - In `src/`, `openable` has these requests, `requests` the tests. `prove` has the whole opening:
-//!   `values` for the values, `claims` and `heights` for what is requested, `run` for the run of
+//!   `points` for the points, each made once, and the matrices with them, `values` for the values,
+//!   `claims` and `heights` for what is requested, `run` for the run of
 //!   the transcript, with `first_layer` and `rounds` in it, and `openings` for the rows and
 //!   siblings at the queries. `foldable` has the matrices of the run as a value, which carries that
 //!   each leaves something to fold. `schemes` is what contracts see of the fields, the challenger

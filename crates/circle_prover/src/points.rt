@@ -1,5 +1,5 @@
 //! The points of requests, each made of its coordinate once, and the matrices with them.
-ghost use Rattle.std.specs.Prelude.{◌≡◌, ◌++◌, All, IfOk, OnOk, flat_map};
+ghost use Rattle.std.specs.Prelude.{◌≡◌, ◌++◌, All, IfOk, OnOk, flat_map, length};
 ghost use Rattle.circle_domain.specs.Selectors.{IsFinite};
 ghost use Rattle.circle_codewords.specs.Points.{coordinates_of};
 ghost use Rattle.circle_codewords.specs.Requests.{lists_of};
@@ -51,10 +51,7 @@ impl<
 > OpenableRequests<'a, Val, EF, InputMmcs, FriMmcs> {
     /// The points of all requests, in the order batch, matrix, point. Fails where memory is
     /// refused.
-    pub(crate) fn opening_points(
-        &self,
-        alloc: Global,
-    ) -> Result<Vec<OpeningPoint<EF>>, AllocError>
+    pub(crate) fn opening_points(&self, alloc: Global) -> Result<Vec<OpeningPoint<EF>>, AllocError>
         ensures { IfOk result (λ v. ArePointsOf self.now v.items) }
     {
         let mut list = Vec::new(alloc);
@@ -74,8 +71,7 @@ impl<
         points: &'a [OpeningPoint<EF>],
     ) -> Result<&'a [OpeningPoint<EF>], AllocError>
         requires fit { AreOpenableAt self.now matrices.now (lists_of coordinates.now) }
-        requires front {
-            BeginsWith (flat_map (λ v. v.items) coordinates.now) (coordinates_of points.now) }
+        requires front { BeginsWith (flat_map (λ v. v.items) coordinates.now) (coordinates_of points.now) }
         ensures list { IfOk result (λ rest.
             AddsAsked matrices.now (lists_of coordinates.now) list.old.items list.new.items) }
         ensures high { IfOk result (λ rest.
@@ -104,7 +100,8 @@ impl<
         alloc: Global,
         points: &'a [OpeningPoint<EF>],
     ) -> Result<Vec<MatrixAtPoints<'a, Val, EF>>, AllocError>
-        requires { ArePointsOf self.now points.now }
+        requires points { ArePointsOf self.now points.now }
+        requires count { length points.now ≡ length (coordinates_of points.now) }
         ensures { IfOk result (λ v. AreMatricesAt self.now v.items) }
     {
         let mut list = Vec::new(alloc);

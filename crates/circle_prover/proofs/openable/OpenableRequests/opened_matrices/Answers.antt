@@ -1,13 +1,14 @@
 use Rattle.std.proofs.Common.{◌≡◌, ◌<◌, [], ◌++◌, ◌∙◌, List, Vec, Global, map, length, flat_map}
 use Rattle.std.proofs.Common.{drop, sym, ap, subst, arith}
 use Rattle.std.proofs.lemmas.List.{length_push, length-map, take_all}
-use Rattle.std.proofs.lemmas.Slice.Zip.{zip_turn, zip_end}
+use Rattle.std.proofs.lemmas.Slice.Zip.{AllZip-long, zip_turn, zip_end}
 use Rattle.circle_commit.specs.DotProduct.{pairwise}
 use Rattle.circle_commit.specs.Mmcs.{opened_rows}
 use Rattle.circle_commit.specs.Pcs.{openings}
 use Rattle.circle_commit.specs.declared.pcs.OpeningRequest.{OpeningRequest}
 use Rattle.circle_relation.proofs.Pairs.{pair-sources}
-use Rattle.circle_codewords.specs.Requests.{all_committed, batch_committed, committed, points_of}
+use Rattle.circle_codewords.specs.Requests.{AreValuesOf, all_committed, batch_committed}
+use Rattle.circle_codewords.specs.Requests.{committed, lists_of, points_of}
 use Rattle.circle_codewords.specs.Words.{committed_of}
 use Rattle.circle_prover.specs.OfRequests.{AreValued, asked_in, asked_of, fields_of}
 use Rattle.circle_prover.proofs.KnownRequests.{batch-fits, batch-front, batch-left, divided}
@@ -33,8 +34,8 @@ split_at-requires-in-loop-request g c =
     let left = ap (map asked_of) c.split_at.ensures.back ∙ c.loop-request.invariant.left in
     batch-fits o rest i c.len.result r turn.0 (turn.2 r) c.len.ensures left
 
-pub push_opened-requires : goal.push_opened-requires
-push_opened-requires g c =
+pub push_opened-requires-clause-valued : goal.push_opened-requires-clause-valued
+push_opened-requires-clause-valued g c =
     let o = c.args.self.now in
     let batches = c.args.values.now in
     let i = length c.loop-request.yielded in
@@ -54,6 +55,17 @@ push_opened-requires g c =
     (sym c.deref.ensures.value)
     (subst (λ a. AreValued o a (opened_rows b.items)) (sym here)
     (request-valued o batches c.requires.values i r b turn.0 turn.1 (turn.2 r) (turn.3 b)))
+
+pub push_opened-requires-clause-count : goal.push_opened-requires-clause-count
+push_opened-requires-clause-count g c =
+    let k = fields_of c.args.self.now in
+    let batch = c.split_at-in-loop-request.result.0.now in
+    let vs = c.deref.result.now in
+    sym (length-map vs (λ v. lists_of v.items))
+    ∙ AllZip-long
+    (λ a v. AreValuesOf k c.args.self.now.params.now.log_blowup a.0 a.1 v)
+    (map asked_of batch) (opened_rows vs) (push_opened-requires-clause-valued g c)
+    ∙ length-map batch asked_of
 
 pub loop-request-preserved : goal.loop-request-preserved
 loop-request-preserved g c =

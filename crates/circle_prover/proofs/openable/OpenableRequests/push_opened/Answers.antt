@@ -31,7 +31,7 @@ invariant_of-push g c =
     let rows : Vec (Vec g.row.EF.Denot Global) Global → List (List g.row.EF.Denot) =
     λ v. lists_of v.items in
     let valued = at-place (λ a v. AreValuesOf (fields_of o) o.params.now.log_blowup a.0 a.1 v)
-    (map asked_of ms) (opened_rows vs) i (asked_of m) (rows v) c.requires
+    (map asked_of ms) (opened_rows vs) i (asked_of m) (rows v) c.requires.valued
     (omega (arith, turn.0, length-map ms asked_of)) (map-at asked_of ms i m turn.0 (turn.2 m))
     (map-at rows vs i v turn.1 (turn.3 v)) in
     record {
@@ -63,7 +63,8 @@ loop-matrix-preserved g c =
     let all = pairwise C (map asked_of ms) (opened_rows vs) in
     let inside : i < length (map asked_of ms) = omega (arith, turn.0, length-map ms asked_of) in
     let inside' : i < length (opened_rows vs) = omega (arith, turn.1, length-map vs rows) in
-    let made = committed-is k b _ (log-is k b g.met.Val.ComplexExtendable.at_most_62 m.log_height
+    let made = committed-is k b m.log_height m.rows.now (coordinates_of m.points.now)
+    c.deref.result.now (log-is k b g.met.Val.ComplexExtendable.at_most_62 m.log_height
     m.rows.now (coordinates_of m.points.now) m.openable)
     ∙ ap (λ ws. C (asked_of m) (lists_of ws)) c.deref.ensures.value in
     push-after (committed_of k b) (map (committed_of k b) c.args.list.now.items) all i _
