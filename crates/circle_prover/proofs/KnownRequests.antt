@@ -102,8 +102,8 @@ module _ {F E I W IC ID IP IE WC WD WP WE : Type 0} {over inputs ic ip ie words 
         values-valued over.fields o.params.now.log_blowup (inputs.matrices r.prover_data.now)
         (points_of inputs.matrices r) (rows b) (request-lists i r lt is) answers.0 answers.1
 
-    -- matrices that are those of the requests from one on are divided behind its own, of which there
-    -- is one for each list of points
+    -- matrices that are those of the requests from one on are divided behind its own, of which
+    -- there is one for each list of points
     module _ {g : _} (rest : List (MatrixAtPoints F E over g)) (i n : ℕ) (r : OpeningRequest ID E)
         (lt : i < length o.requests.now) (is : r ≡ get_or o.requests.now i r)
         (count : n ≡ vec_len r.points)
@@ -125,8 +125,8 @@ module _ {F E I W IC ID IP IE WC WD WP WE : Type 0} {over inputs ic ip ie words 
         whole = are ∙ sym (append-nil (flat_map (asked_in inputs.matrices) (drop i o.requests.now)))
 
         pub batch-fits : n ≤ length rest
-        batch-fits = fits asked_of (asked_in inputs.matrices) rest o.requests.now i n r lt is counted
-            [] whole
+        batch-fits = fits asked_of (asked_in inputs.matrices) rest o.requests.now i n r lt is
+            counted [] whole
 
         pub batch-front : map asked_of (take n rest) ≡ asked_in inputs.matrices r
         batch-front = front asked_of (asked_in inputs.matrices) rest o.requests.now i n r lt is
@@ -165,7 +165,8 @@ module _ {F E I W IC ID IP IE WC WD WP WE : Type 0} {over inputs ic ip ie words 
           (λ i m lt. let tall = tall-with i m lt in omega (arith, tall))
 
       -- the matrices as they are listed: the greatest height
-      pub top-listed : {g : _} (list : List (OpenedMatrix F E over g)) → AreMatricesWith o values list →
+      pub top-listed : {g : _} (list : List (OpenedMatrix F E over g))
+          → AreMatricesWith o values list →
           greatest (map (λ m. m.log_height) list) ≡ top_of (seen_with o values)
       top-listed list are = top-seen over.fields o.params.now.log_blowup list ∙ ap top_of are
 
@@ -201,8 +202,8 @@ module _ {F E I W IC ID IP IE WC WD WP WE : Type 0} {over inputs ic ip ie words 
             low-with
 
         -- of the matrices as they are listed: there is one, and each leaves something to fold
-        pub listed-tall : {g : _} (list : List (OpenedMatrix F E over g)) → AreMatricesWith o values list →
-            (1 ≤ length list) × All (λ m. o.params.now.log_blowup
+        pub listed-tall : {g : _} (list : List (OpenedMatrix F E over g))
+            → AreMatricesWith o values list → (1 ≤ length list) × All (λ m. o.params.now.log_blowup
             + o.params.now.log_final_poly_len + 2 ≤ m.log_height) list
         listed-tall list are =
             let read = committed_of over.fields o.params.now.log_blowup in

@@ -199,7 +199,8 @@ module _ {F E : Type 0} (k : Fields F E) (blowup : ℕ) where
 
   pub committed-is : (h : ℕ) (m : RowMajorMatrix F) (ps : List E) (vs : List (Vec E Global)) →
       h ≡ log_of (height_of m) →
-      made-of h m (pairwise (λ t v. claim_of t v.items) ps vs) ≡ committed k blowup m ps (lists_of vs)
+      made-of h m (pairwise (λ t v. claim_of t v.items) ps vs)
+      ≡ committed k blowup m ps (lists_of vs)
   committed-is h m ps vs log =
       ap (λ n. made-of n m (pairwise (λ t v. claim_of t v.items) ps vs)) log
       ∙ ap (made-of (log_of (height_of m)) m) (pairwise-map claim_of (λ v. v.items) ps vs)

@@ -16,22 +16,22 @@ any-map : {X Y : Type 0} (p : Y → Bool) (f : X → Y) (xs : List X) → list_a
 any-map p f [] = refl
 any-map p f (x ∷ xs) = ap (λ b. p (f x) || b) (any-map p f xs)
 
-module _ {F E : Type 0} {over g : _} (k : Fields F E) (blowup : ℕ) (ms : List (OpenedMatrix F E over g))
-  where
-    -- the greatest of them
-    pub top-seen : greatest (map (λ m. m.log_height) ms) ≡ top_of (map (committed_of k blowup) ms)
-    top-seen =
-        ap greatest (sym (map-map (λ (c : Committed F E). c.log_height) (committed_of k blowup) ms))
+module _ {F E : Type 0} {over g : _} (k : Fields F E) (blowup : ℕ)
+    (ms : List (OpenedMatrix F E over g)) where
+  -- the greatest of them
+  pub top-seen : greatest (map (λ m. m.log_height) ms) ≡ top_of (map (committed_of k blowup) ms)
+  top-seen =
+      ap greatest (sym (map-map (λ (c : Committed F E). c.log_height) (committed_of k blowup) ms))
 
-    -- all of them
-    pub heights-seen : filter (λ h. list_any (λ m. m.log_height == h) ms)
-        (range_with_len 0 (suc (greatest (map (λ m. m.log_height) ms))))
-        ≡ heights_of (map (committed_of k blowup) ms)
-    heights-seen =
-        let seen = map (committed_of k blowup) ms in
-        ap (λ n. filter (λ h. list_any (λ m. m.log_height == h) ms) (range_with_len 0 (suc n)))
-        top-seen
-        ∙ filter_agree (λ h. list_any (λ m. m.log_height == h) ms)
-        (λ h. list_any (λ (c : Committed F E). c.log_height == h) seen)
-        (λ h. any-map (λ (c : Committed F E). c.log_height == h) (committed_of k blowup) ms)
-        (range_with_len 0 (suc (top_of seen)))
+  -- all of them
+  pub heights-seen : filter (λ h. list_any (λ m. m.log_height == h) ms)
+      (range_with_len 0 (suc (greatest (map (λ m. m.log_height) ms))))
+      ≡ heights_of (map (committed_of k blowup) ms)
+  heights-seen =
+      let seen = map (committed_of k blowup) ms in
+      ap (λ n. filter (λ h. list_any (λ m. m.log_height == h) ms) (range_with_len 0 (suc n)))
+      top-seen
+      ∙ filter_agree (λ h. list_any (λ m. m.log_height == h) ms)
+      (λ h. list_any (λ (c : Committed F E). c.log_height == h) seen)
+      (λ h. any-map (λ (c : Committed F E). c.log_height == h) (committed_of k blowup) ms)
+      (range_with_len 0 (suc (top_of seen)))

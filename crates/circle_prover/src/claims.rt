@@ -36,6 +36,7 @@ impl<
         matrices: &[MatrixAtPoints<'a, Val, EF>],
         values: &'a [OpenedValuesForMatrix<EF>],
     ) -> Result<(), AllocError>
+        // It follows from the next clause, as in `matrices_at_points`.
         requires count { length values.now ≡ length matrices.now }
         requires valued { AreValued self.now (map asked_of matrices.now) (opened_rows values.now) }
         ensures { OnOk result (AddsOpened self.now (map asked_of matrices.now)

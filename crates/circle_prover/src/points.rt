@@ -71,7 +71,8 @@ impl<
         points: &'a [OpeningPoint<EF>],
     ) -> Result<&'a [OpeningPoint<EF>], AllocError>
         requires fit { AreOpenableAt self.now matrices.now (lists_of coordinates.now) }
-        requires front { BeginsWith (flat_map (λ v. v.items) coordinates.now) (coordinates_of points.now) }
+        requires front { BeginsWith (flat_map (λ v. v.items) coordinates.now)
+            (coordinates_of points.now) }
         ensures list { IfOk result (λ rest.
             AddsAsked matrices.now (lists_of coordinates.now) list.old.items list.new.items) }
         ensures high { IfOk result (λ rest.
@@ -100,6 +101,9 @@ impl<
         alloc: Global,
         points: &'a [OpeningPoint<EF>],
     ) -> Result<Vec<MatrixAtPoints<'a, Val, EF>>, AllocError>
+        // It has as many coordinates as points. This is required by itself, since with one clause
+        // alone the prover takes long to state the place of a call; so it is of the functions that
+        // have a second clause which follows from the first.
         requires points { ArePointsOf self.now points.now }
         requires count { length points.now ≡ length (coordinates_of points.now) }
         ensures { IfOk result (λ v. AreMatricesAt self.now v.items) }

@@ -178,6 +178,7 @@ impl<
     >
     where
         C: CanSample<Val> + GrindingChallenger<Val> + CanObserve<FriMmcs::Commitment>,
+        // The second follows from the first, as in `matrices_at_points`.
         requires matrices { AreMatricesAt self.now matrices.now }
         requires high { AreHigh self.now matrices.now }
         ensures values { IfOk result (λ r. AreAnsweredBy self.now (openings r.0.items)) }

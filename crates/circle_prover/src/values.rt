@@ -10,8 +10,8 @@ use circle_commit::{Mmcs, OpenedValues, OpenedValuesForRound};
 use circle_field::{ComplexExtendable, ExtensionField};
 use std::alloc::{AllocError, Global};
 
-// The values of the matrices of one batch. The weights that are made are added to `all`, where those
-// of other batches are found.
+// The values of the matrices of one batch. The weights that are made are added to `all`, where
+// those of other batches are found.
 fn batch_values<F: ComplexExtendable, EF: ExtensionField<F>>(
     alloc: Global,
     all: &mut Vec<PointWeights<F, EF>>,

@@ -29,15 +29,12 @@ loop-point-preserved g c =
     let coordinate = λ (p : OpeningPoint g.row.EF.Denot _). p.coordinate in
     let here = pairwise claim_of (coordinates_of points) (lists_of vectors) in
     let all = map (point_taken l) here in
-    let inside : i < length (coordinates_of points) = omega (arith, turn.0, length-map points coordinate) in
-    let inside' : i < length (lists_of vectors) = omega (arith, turn.1, length-map vectors (λ v. v.items)) in
-    let within : i < length here = omega (
-      arith,
-      inside,
-      inside',
-      pairwise-long claim_of (coordinates_of points)
-          (lists_of vectors),
-    ) in
+    let inside : i < length (coordinates_of points) =
+    omega (arith, turn.0, length-map points coordinate) in
+    let inside' : i < length (lists_of vectors) =
+    omega (arith, turn.1, length-map vectors (λ v. v.items)) in
+    let long = pairwise-long claim_of (coordinates_of points) (lists_of vectors) in
+    let within : i < length here = omega (arith, inside, inside', long) in
     let made = ap (λ q. claim q c.deref.result.now) p.at
     ∙ ap (claim (from_line l p.coordinate)) c.deref.ensures.value in
     push-after taken_of (claims_of c.args.claims.now.items) all i _ c.loop-point.claims.items

@@ -32,7 +32,8 @@ pub push_matrices-requires-clause-front : goal.push_matrices-requires-clause-fro
 push_matrices-requires-clause-front g c = (
   _,
   begins c.args.self.now.requests.now c.loop-request.request-index c.request-item.result _ _
-      c.loop-request-test.true c.request-item.is c.deref.ensures.value c.loop-request.invariant.rest,
+      c.loop-request-test.true c.request-item.is c.deref.ensures.value
+      c.loop-request.invariant.rest,
 )
 
 pub loop-request-preserved : goal.loop-request-preserved

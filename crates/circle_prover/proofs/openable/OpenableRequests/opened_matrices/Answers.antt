@@ -51,8 +51,8 @@ push_opened-requires-clause-valued g c =
     let here : map asked_of c.split_at-in-loop-request.result.0.now ≡ asked_in kept r =
     ap (map asked_of) c.split_at-in-loop-request.ensures.front
     ∙ batch-front o rest i c.len.result r turn.0 (turn.2 r) c.len.ensures left in
-    subst (λ vs. AreValued o (map asked_of c.split_at-in-loop-request.result.0.now) (opened_rows vs))
-    (sym c.deref.ensures.value)
+    let asked = map asked_of c.split_at-in-loop-request.result.0.now in
+    subst (λ vs. AreValued o asked (opened_rows vs)) (sym c.deref.ensures.value)
     (subst (λ a. AreValued o a (opened_rows b.items)) (sym here)
     (request-valued o batches c.requires.values i r b turn.0 turn.1 (turn.2 r) (turn.3 b)))
 

@@ -28,8 +28,8 @@ log2_strict-requires g c =
     c.loop-matrix.yielded_by _ c.in-Some.is c.next.ensures.steps in
     let m = c.in-Some.matrix.now in
     let v = c.in-Some.asked.now in
-    let can = openable-at (fields_of o) o.params.now.log_blowup (fields_of o).two_adicity ms coords i
-    m v c.requires.fit turn.0 turn.1 (turn.2 m) (turn.3 v) in
+    let can = openable-at (fields_of o) o.params.now.log_blowup (fields_of o).two_adicity ms coords
+    i m v c.requires.fit turn.0 turn.1 (turn.2 m) (turn.3 v) in
     (log_of (height_of m), c.height.ensures ∙ can.power)
 
 pub split_at-requires : goal.split_at-requires
@@ -46,8 +46,8 @@ split_at-requires g c =
     let v = c.in-Some.asked.now in
     let count : c.len.result ≡ length v.items = omega (arith, c.len.ensures, v.ok.0) in
     let before = c.requires.front in
-    fits (λ (p : OpeningPoint g.row.EF.Denot _). p.coordinate) (λ v. v.items) c.loop-matrix.rest.now coords
-    i c.len.result v turn.1 (turn.3 v) count before.0
+    fits (λ (p : OpeningPoint g.row.EF.Denot _). p.coordinate) (λ v. v.items)
+    c.loop-matrix.rest.now coords i c.len.result v turn.1 (turn.3 v) count before.0
     (c.loop-matrix.invariant.rest before.0 before.1)
 
 pub invariant_of-push : goal.invariant_of-push
@@ -62,16 +62,16 @@ invariant_of-push g c =
     c.loop-matrix.yielded_by _ c.in-Some.is c.next.ensures.steps in
     let m = c.in-Some.matrix.now in
     let v = c.in-Some.asked.now in
-    let can = openable-at (fields_of o) o.params.now.log_blowup (fields_of o).two_adicity ms coords i
-    m v c.requires.fit turn.0 turn.1 (turn.2 m) (turn.3 v) in
+    let can = openable-at (fields_of o) o.params.now.log_blowup (fields_of o).two_adicity ms coords
+    i m v c.requires.fit turn.0 turn.1 (turn.2 m) (turn.3 v) in
     let count : c.len.result ≡ length v.items = omega (arith, c.len.ensures, v.ok.0) in
     let before = c.requires.front in
     let log : c.log2_strict.result ≡ log_of (height_of m) =
     c.log2_strict.ensures.only (log_of (height_of m)) (c.height.ensures ∙ can.power) in
     let here : coordinates_of c.split_at.result.0.now ≡ v.items =
     ap coordinates_of c.split_at.ensures.front
-    ∙ front (λ (p : OpeningPoint g.row.EF.Denot _). p.coordinate) (λ v. v.items) c.loop-matrix.rest.now coords
-    i c.len.result v turn.1 (turn.3 v) count before.0
+    ∙ front (λ (p : OpeningPoint g.row.EF.Denot _). p.coordinate) (λ v. v.items)
+    c.loop-matrix.rest.now coords i c.len.result v turn.1 (turn.3 v) count before.0
     (c.loop-matrix.invariant.rest before.0 before.1) in
     record {
       openable = can-open (fields_of o) o.params.now.log_blowup c.log2_strict.result m v.items
@@ -90,16 +90,16 @@ loop-matrix-preserved g c =
     c.loop-matrix.yielded_by _ c.in-Some.is c.next.ensures.steps in
     let m = c.in-Some.matrix.now in
     let v = c.in-Some.asked.now in
-    let can = openable-at (fields_of o) o.params.now.log_blowup (fields_of o).two_adicity ms coords i
-    m v c.requires.fit turn.0 turn.1 (turn.2 m) (turn.3 v) in
+    let can = openable-at (fields_of o) o.params.now.log_blowup (fields_of o).two_adicity ms coords
+    i m v c.requires.fit turn.0 turn.1 (turn.2 m) (turn.3 v) in
     let count : c.len.result ≡ length v.items = omega (arith, c.len.ensures, v.ok.0) in
     let before = c.requires.front in
     let log : c.log2_strict.result ≡ log_of (height_of m) =
     c.log2_strict.ensures.only (log_of (height_of m)) (c.height.ensures ∙ can.power) in
     let here : coordinates_of c.split_at.result.0.now ≡ v.items =
     ap coordinates_of c.split_at.ensures.front
-    ∙ front (λ (p : OpeningPoint g.row.EF.Denot _). p.coordinate) (λ v. v.items) c.loop-matrix.rest.now coords
-    i c.len.result v turn.1 (turn.3 v) count before.0
+    ∙ front (λ (p : OpeningPoint g.row.EF.Denot _). p.coordinate) (λ v. v.items)
+    c.loop-matrix.rest.now coords i c.len.result v turn.1 (turn.3 v) count before.0
     (c.loop-matrix.invariant.rest before.0 before.1) in
     let lists = lists_of coords in
     let asked = zip ms lists in
@@ -137,8 +137,8 @@ returns g c =
     c.loop-matrix.yielded_by c.in-None.is c.next.ensures.steps in
     let lists = lists_of coords in
     let k = fields_of c.args.self.now in
-    let long = AllZip-long (IsOpenable k k.two_adicity c.args.self.now.params.now.log_blowup) ms lists
-    c.requires.fit in
+    let long = AllZip-long (IsOpenable k k.two_adicity c.args.self.now.params.now.log_blowup) ms
+    lists c.requires.fit in
     let count = length-map coords (λ v. v.items) in
     record {
       list = c.loop-matrix.invariant.list
