@@ -1,7 +1,6 @@
 -- What is known of requests that can be opened, and of their matrices once their values are known.
 use Rattle.std.specs.Prelude.{◌≡◌, ◌+◌, ◌^◌, ◌<◌, ◌≤◌, List, length, map, flat_map, All, Vec}
 use Rattle.std.specs.Prelude.{slice_index_or, drop, take, vec_len, [], ◌++◌}
-use Rattle.std.specs.List.{AllZip}
 use Rattle.std.specs.declared.alloc.Global.{Global}
 use Rattle.std.proofs.Common.{ℕ, refl, sym, ap, ◌∙◌, subst, arith, get_or, append-nil}
 use Rattle.std.proofs.Common.{drop-drop}

@@ -1,6 +1,6 @@
 -- Requested matrices with their points and the values there, one after another.
 use Rattle.std.specs.Prelude.{◌≡◌, ℕ, ◌+◌, ◌^◌, ◌<◌, ◌≤◌, List, [], ◌∷◌, ◌++◌, length, map, drop}
-use Rattle.std.specs.Prelude.{flat_map, take, zip, All, Vec, min, slice_index_or}
+use Rattle.std.specs.Prelude.{flat_map, take, zip, Vec, min, slice_index_or}
 use Rattle.std.specs.List.{AllZip}
 use Rattle.std.specs.declared.alloc.Global.{Global}
 use Rattle.std.proofs.Common.{refl, sym, ◌∙◌, ap, subst, arith, append_assoc, append-nil}
@@ -17,10 +17,8 @@ use Rattle.circle_relation.specs.Accepts.{Fields}
 use Rattle.circle_relation.specs.Statement.{PointClaim}
 use Rattle.circle_codewords.specs.Lifts.{read_rows}
 use Rattle.circle_codewords.specs.Values.{AreOff, AreOpened, CanBeOpened}
-use Rattle.circle_codewords.specs.Words.{Committed, claim_of, committed_of}
+use Rattle.circle_codewords.specs.Words.{Committed, claim_of}
 use Rattle.circle_codewords.specs.declared.matrix.MatrixAtPoints.{MatrixAtPoints}
-use Rattle.circle_codewords.specs.declared.matrix.OpenedMatrix.{OpenedMatrix}
-use Rattle.circle_codewords.specs.Points.{coordinates_of}
 use Rattle.circle_codewords.specs.Requests.{AreBatchValues, AreValuesOf, IsOpenable}
 use Rattle.circle_codewords.specs.Requests.{batch_committed, committed, lists_of, log_of}
 use Rattle.circle_codewords.proofs.Logs.{log_of-power}

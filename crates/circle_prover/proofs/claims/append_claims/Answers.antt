@@ -1,4 +1,4 @@
-use Rattle.std.proofs.Common.{◌≡◌, ◌<◌, ◌++◌, ◌∙◌, length, map, sym, ap, arith, slice_index_or}
+use Rattle.std.proofs.Common.{◌<◌, ◌++◌, ◌∙◌, length, map, sym, ap, arith, slice_index_or}
 use Rattle.std.proofs.lemmas.List.{length_push, length-map, take_all}
 use Rattle.std.proofs.lemmas.Slice.Zip.{zip_turn, zip_end}
 use Rattle.circle_commit.specs.DotProduct.{pairwise}

@@ -1,5 +1,5 @@
-use Rattle.std.proofs.Common.{◌≡◌, ◌≤◌, ◌-◌, ◌+◌, ◌^◌, ◌++◌, [], length, map, sym, ap, ◌∙◌, subst}
-use Rattle.std.proofs.Common.{arith, inl, inr, refl, take}
+use Rattle.std.proofs.Common.{◌≡◌, ◌-◌, ◌+◌, ◌^◌, length, sym, ap, ◌∙◌, subst}
+use Rattle.std.proofs.Common.{arith, inl, inr, refl}
 use Rattle.std.proofs.lemmas.List.{append-nil}
 use Rattle.circle_domain.specs.Spans.{HasXValues, XSpan}
 use Rattle.circle_transcript.specs.Numbers.{indices_steps}
@@ -7,8 +7,7 @@ use Rattle.circle_transcript.specs.Transcript.{numbers, run_of, state_of}
 use Rattle.circle_transcript.proofs.Playing.{handed_on}
 use Rattle.circle_transcript.proofs.Runs.{indices_due}
 use Rattle.circle_prover.specs.Folding.{IsFoldFailure, fold_of, folding_steps, rounds_due, word_of}
-use Rattle.circle_prover.specs.OfFoldable.{fields_of, round_count, seen}
-use Rattle.circle_prover.specs.Words.{top_of}
+use Rattle.circle_prover.specs.OfFoldable.{fields_of, round_count}
 use Rattle.circle_prover.proofs.Begun.{at-hand}
 use Rattle.circle_prover.proofs.Stuck.{stuck-moved}
 use Rattle.circle_prover.proofs.TallMatrices.{top-is, top-low, top-tall}

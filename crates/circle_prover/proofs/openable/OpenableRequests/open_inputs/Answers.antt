@@ -1,8 +1,8 @@
 use Rattle.std.specs.List.{AllZip}
-use Rattle.std.proofs.Common.{◌≡◌, ◌<◌, ◌*◌, ◌-◌, ◌+◌, ◌^◌, ◌++◌, ◌∷◌, [], ◌∙◌, All, map, take, sym}
+use Rattle.std.proofs.Common.{◌≡◌, ◌<◌, ◌*◌, ◌-◌, ◌+◌, ◌^◌, ◌∷◌, [], ◌∙◌, All, map, take, sym}
 use Rattle.std.proofs.Common.{ap, subst, arith}
 use Rattle.std.proofs.lemmas.Nat.{pow-add}
-use Rattle.std.proofs.lemmas.List.{map-append, take_all, take_more}
+use Rattle.std.proofs.lemmas.List.{map-append, take_all}
 use Rattle.circle_commit.specs.Mmcs.{max_height}
 use Rattle.circle_commit.specs.declared.pcs.BatchMultiOpening.{BatchMultiOpening}
 use Rattle.circle_commit.specs.declared.pcs.OpeningRequest.{OpeningRequest}

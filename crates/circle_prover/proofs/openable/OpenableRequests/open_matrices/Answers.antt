@@ -1,4 +1,4 @@
-use Rattle.std.proofs.Common.{◌≡◌, ◌∙◌, ◌≤◌, All, length, refl, sym, ap, subst, arith, inl, inr}
+use Rattle.std.proofs.Common.{All, refl, sym, subst, arith, inl, inr}
 use Rattle.std.specs.List.{AllZip}
 use Rattle.std.specs.Prelude.{Ok}
 use Rattle.circle_challenger.specs.Moves.{RunMoves, run_moves}
@@ -10,7 +10,7 @@ use Rattle.circle_relation.specs.Taken.{challenges_of, claims_taken, shape_by, t
 use Rattle.circle_transcript.specs.Runs.{drawn_of}
 use Rattle.circle_transcript.proofs.Playing.{handed_on}
 use Rattle.circle_codewords.specs.Requests.{AreHeights, HasBatchRows}
-use Rattle.circle_prover.specs.OfRequests.{AreAnsweredBy, IsFailureFrom, IsOpeningBy, claims_with}
+use Rattle.circle_prover.specs.OfRequests.{AreAnsweredBy, IsFailureFrom, claims_with}
 use Rattle.circle_prover.specs.OfRequests.{seen_with}
 use Rattle.circle_prover.specs.Words.{taken_in}
 use Rattle.circle_prover.proofs.KnownRequests.{are-tall, heights-with, top-low}

@@ -1,4 +1,4 @@
-use Rattle.std.proofs.Common.{List, [], ◌+◌, ◌++◌, ◌∙◌, All, Vec, flat_map, refl, sym, ap, subst}
+use Rattle.std.proofs.Common.{[], ◌+◌, ◌++◌, ◌∙◌, All, flat_map, refl, sym, ap, subst}
 use Rattle.std.proofs.lemmas.List.{take_all}
 use Rattle.circle_commit.specs.declared.pcs.OpeningRequest.{OpeningRequest}
 use Rattle.circle_domain.specs.Selectors.{IsFinite}

@@ -1,6 +1,6 @@
-use Rattle.std.proofs.Common.{◌≡◌, ◌+◌, ◌<◌, ◌≤◌, ◌^◌, All, map, flat_map, sym, ap, ◌∙◌, subst}
+use Rattle.std.proofs.Common.{◌≡◌, ◌<◌, ◌^◌, All, map, flat_map, sym, ap, ◌∙◌, subst}
 use Rattle.std.proofs.Common.{arith, refl, inl, inr}
-use Rattle.std.specs.Prelude.{IfOk, Ok}
+use Rattle.std.specs.Prelude.{Ok}
 use Rattle.circle_challenger.specs.Moves.{RunMoves, run_moves}
 use Rattle.circle_commit.specs.Pcs.{openings}
 use Rattle.circle_codewords.specs.Words.{committed_of}

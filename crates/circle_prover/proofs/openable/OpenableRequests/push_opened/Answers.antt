@@ -1,4 +1,4 @@
-use Rattle.std.proofs.Common.{◌≡◌, ◌<◌, ◌++◌, ◌∙◌, List, Vec, Global, length, map, refl, sym, ap, subst, arith}
+use Rattle.std.proofs.Common.{◌≡◌, ◌<◌, ◌++◌, ◌∙◌, List, Vec, Global, length, map, sym, ap, subst, arith}
 use Rattle.std.proofs.Common.{All, slice_index_or}
 use Rattle.std.proofs.lemmas.List.{length_push, length-map, take_all}
 use Rattle.std.proofs.lemmas.Slice.Zip.{zip_turn, zip_end}
@@ -9,7 +9,7 @@ use Rattle.circle_commit.specs.declared.matrix.RowMajorMatrix.{RowMajorMatrix}
 use Rattle.circle_relation.proofs.Pairs.{pair-sources}
 use Rattle.circle_codewords.specs.Points.{coordinates_of}
 use Rattle.circle_codewords.specs.Requests.{AreValuesOf, committed, lists_of}
-use Rattle.circle_codewords.specs.Words.{Committed, committed_of}
+use Rattle.circle_codewords.specs.Words.{committed_of}
 use Rattle.circle_codewords.proofs.AtPoints.{All-unmap}
 use Rattle.circle_prover.specs.OfRequests.{asked_of, fields_of}
 use Rattle.circle_prover.proofs.Requested.{at-place, committed-is, log-is, map-at, pairwise-at}

@@ -1,5 +1,5 @@
-use Rattle.std.proofs.Common.{[], ◌∷◌, ◌+◌, ◌∙◌, ◌<◌, List, Vec, Global, All, map, take, drop, sym}
-use Rattle.std.proofs.Common.{ap, subst, arith, drop-drop, length}
+use Rattle.std.proofs.Common.{[], ◌∷◌, ◌+◌, ◌∙◌, ◌<◌, List, Vec, Global, All, map, take, sym}
+use Rattle.std.proofs.Common.{ap, subst, arith}
 use Rattle.std.specs.List.{AllZip}
 use Rattle.std.proofs.lemmas.List.{map-append, take_all}
 use Rattle.std.proofs.lemmas.List.Elements.{All-drop, All-take}
