@@ -34,12 +34,12 @@ module _ {F E : Type 0} where
       Adds l embed alpha points none (λ j. (claim, slice_index_or m.rows j []) ∷ []) offset after
       old new →
       Adds l embed alpha points none (claims_among m (take (i + 1) m.claims)) first after begun new
-  claim-after l embed alpha points none m i claim first offset after begun old new lt is before this =
+  claim-after l embed alpha points none m i claim first offset after begun old new lt is was this =
       adds-same l embed alpha points none
       (λ j. claims_among m (take i m.claims) j ++ (claim, slice_index_or m.rows j []) ∷ [])
       (claims_among m (take (i + 1) m.claims)) first after begun new
       (adds-both l embed alpha points none (claims_among m (take i m.claims))
-      (λ j. (claim, slice_index_or m.rows j []) ∷ []) first offset after begun old new before this)
+      (λ j. (claim, slice_index_or m.rows j []) ∷ []) first offset after begun old new was this)
       (λ j _. among-more m i claim j lt is)
 
   claims-append : (h : ℕ) (ms : List (Committed F E)) (m : Committed F E) (j : ℕ) →

@@ -5,7 +5,7 @@ use Rattle.std.specs.Prelude.{All, true, Option, Some, None, IfSome}
 use Rattle.std.specs.Borrow.{Bor}
 use Rattle.std.specs.List.{Any}
 use Rattle.std.specs.Option.{is_some}
-use Rattle.std.proofs.Common.{zero, suc, refl, sym, ◌∙◌, ap, subst, arith, ⊎_elim}
+use Rattle.std.proofs.Common.{zero, suc, sym, ◌∙◌, ap, subst, arith, ⊎_elim}
 use Rattle.std.proofs.lemmas.Bool.{false≢true, cases_lt}
 use Rattle.std.proofs.lemmas.List.{get_or_default}
 use Rattle.circle_field.specs.Field.{FieldOps}

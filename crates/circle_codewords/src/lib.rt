@@ -38,9 +38,9 @@
 //!   carry facts; `values.rt`, `ratios.rt`: what depends on a point; `combined.rt`: combinations of
 //!   columns; `corrected.rt`: codewords without their lambda, as rows of two, and their folds by y.
 //! - In `specs/`, `Points`: the coordinates of points. Over these coordinates, `Values`, `Ratios`,
-//!   `Lifts` and `Words`: the definitions. `OfMatrices`: the same over a value of `matrix.rt`, whose
-//!   type has the dictionary of its fields. `Requests`, `Openings`: what an opening is requested of
-//!   and returns, and what is opened at the queries. `Rows`: logarithms.
+//!   `Lifts` and `Words`: the definitions. `OfMatrices`: the same over a value of `matrix.rt`,
+//!   whose type has the dictionary of its fields. `Requests`, `Openings`: what an opening is
+//!   requested of and returns, and what is opened at the queries. `Rows`: logarithms.
 //! - In `proofs/`, `Prefix`: the first rows of a committed matrix are those of a smaller domain;
 //!   `Lifts`: what they extend to; `Combinations`: to combine extended rows is to extend what is
 //!   combined; `AtPoints`: points by their coordinates; `Opened`, `Known`: values by weights;

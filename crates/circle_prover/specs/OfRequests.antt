@@ -1,7 +1,7 @@
 -- Requests that can be opened, as clauses see them. The dictionaries of their fields and of their
 -- schemes are arguments of their type: the definitions of this page read them off the requests.
-use Rattle.std.specs.Prelude.{◌≡◌, ℕ, ◌⊎◌, ◌<◌, ◌++◌, List, map, flat_map, zip, All, Result, Ok, Err}
-use Rattle.std.specs.Prelude.{MatchResult, Vec}
+use Rattle.std.specs.Prelude.{◌≡◌, ℕ, ◌⊎◌, ◌<◌, ◌++◌, List, map, flat_map, zip, All, Result, Ok}
+use Rattle.std.specs.Prelude.{Err, MatchResult, Vec}
 use Rattle.std.specs.List.{AllZip}
 use Rattle.std.specs.declared.alloc.Global.{Global}
 use Rattle.circle_challenger.specs.Moves.{RunMoves}

@@ -1,11 +1,8 @@
-use Rattle.std.proofs.Common.{◌≡◌, ◌+◌, ◌<◌, [], ◌∙◌, sym, ap, subst, arith, map, take, length}
-use Rattle.std.specs.Prelude.{IfSome}
-use Rattle.std.specs.List.{Any}
+use Rattle.std.proofs.Common.{◌≡◌, ◌+◌, ◌<◌, ◌∙◌, sym, ap, subst, arith, map, take, length}
 use Rattle.std.proofs.lemmas.Bool.{eqb-true}
-use Rattle.std.proofs.lemmas.List.{take_all, length-map}
+use Rattle.std.proofs.lemmas.List.{length-map}
 use Rattle.circle_field.specs.Circle.{origin, IsOnCircle}
 use Rattle.circle_field.specs.Field.{nth_power}
-use Rattle.circle_field.proofs.Inverses.{some_unless}
 use Rattle.circle_commit.specs.DotProduct.{dot}
 use Rattle.circle_commit.specs.RowMajorMatrix.{rows, width_of}
 use Rattle.circle_folding.specs.Queries.{IsApart}
@@ -20,10 +17,8 @@ use Rattle.circle_codewords.specs.Ratios.{HasRatios, points_of_height, vanishing
 use Rattle.circle_codewords.specs.Ratios.{with_quotients}
 use Rattle.circle_codewords.specs.Words.{committed_of, claim_of}
 use Rattle.circle_codewords.specs.declared.points.OpeningPoint.{OpeningPoint}
-use Rattle.circle_codewords.specs.declared.ratios.PointRatios.{PointRatios}
 use Rattle.circle_codewords.proofs.Added.{claim-adds, count-points, count-read}
 use Rattle.circle_codewords.proofs.Claims.{claim-after, claims_among}
-use Rattle.circle_codewords.proofs.Known.{right-of}
 use Rattle.circle_codewords.proofs.OpenedClaims.{claim-at, claims-count, claims-end, valued-at}
 use Rattle.circle_codewords.proofs.AtPoints.{off-points}
 use Rattle.circle_codewords.proofs.matrix.BatchedMatrices.add_matrix.Goals as goal

@@ -1,5 +1,5 @@
-use Rattle.std.proofs.Common.{◌≡◌, ◌<◌, ◌++◌, ◌∙◌, List, Vec, Global, length, map, sym, ap, subst, arith}
-use Rattle.std.proofs.Common.{All, slice_index_or}
+use Rattle.std.proofs.Common.{◌≡◌, ◌<◌, ◌++◌, ◌∙◌, List, Vec, Global, length, map, sym, ap}
+use Rattle.std.proofs.Common.{subst, arith, All, slice_index_or}
 use Rattle.std.proofs.lemmas.List.{length_push, length-map, take_all}
 use Rattle.std.proofs.lemmas.Slice.Zip.{zip_turn, zip_end}
 use Rattle.circle_commit.specs.DotProduct.{pairwise}
