@@ -1,7 +1,7 @@
 -- What an opening commits to once its batching challenge is drawn: Circle STARKs (ePrint 2024/278),
 -- sections 4 and 6.
 use Rattle.std.specs.Prelude.{◌≡◌, ℕ, ◌+◌, ◌-◌, ◌≤◌, ◌==◌, List, [], ◌∷◌, length, map, zip, All}
-use Rattle.std.specs.Prelude.{Ok, Some, slice_get, slice_index_or, true, Vec}
+use Rattle.std.specs.Prelude.{Ok, Some, slice_get, slice_index_or, Vec}
 use Rattle.std.specs.List.{filter, list_any, range_with_len}
 use Rattle.std.specs.declared.alloc.Global.{Global}
 use Rattle.std.proofs.Common.{zero, suc}

@@ -6,7 +6,7 @@ ghost use Rattle.circle_relation.specs.RunOf.{proof_of};
 ghost use Rattle.circle_prover.specs.Opening.{AreEasy};
 ghost use Rattle.circle_codewords.specs.Requests.{AreHeights, OpensBatches};
 ghost use Rattle.circle_prover.specs.OfRequests.{AreAnsweredBy, AreMatricesAt, AreSomeWordsOf};
-ghost use Rattle.circle_prover.specs.OfRequests.{AreHigh, AreWordsWith};
+ghost use Rattle.circle_prover.specs.OfRequests.{AreWordsWith};
 ghost use Rattle.circle_prover.specs.OfRequests.{HoldsInputsAt, HoldsWordsOf, IsFailureFrom};
 ghost use Rattle.circle_prover.specs.OfRequests.{IsOpeningBy, IsOutcome};
 ghost use Rattle.circle_relation.specs.Taken.{claims_taken, taken_by};
@@ -163,36 +163,6 @@ impl<
         })
     }
 
-    // Opens the requested matrices, which are given with their points.
-    fn open_matrices<C>(
-        &self,
-        alloc: Global,
-        matrices: &[MatrixAtPoints<Val, EF>],
-        challenger: &mut C,
-    ) -> Result<
-        (
-            OpenedValues<EF>,
-            CirclePcsProof<Val, EF, InputMmcs, FriMmcs, Val>,
-        ),
-        ProverError,
-    >
-    where
-        C: CanSample<Val> + GrindingChallenger<Val> + CanObserve<FriMmcs::Commitment>,
-        // The second follows from the first, as in `matrices_at_points`.
-        requires matrices { AreMatricesAt self.now matrices.now }
-        requires high { AreHigh self.now matrices.now }
-        ensures values { IfOk result (λ r. AreAnsweredBy self.now (openings r.0.items)) }
-        ensures proof { let m = ⟦<C as RunChallenger<Val, EF, FriMmcs::Commitment>>⟧.run in
-            IfOk result (λ r. IsOpeningBy self.now m challenger.old r challenger.new) }
-        ensures failure { let m = ⟦<C as RunChallenger<Val, EF, FriMmcs::Commitment>>⟧.run in
-            IfErr result (IsFailureFrom self.now m challenger.old) }
-    {
-        let values = self.requested_values(alloc, matrices)?;
-        let words = self.play(alloc, matrices, &values, challenger)?;
-        let proof = self.prove_words(alloc, words)?;
-        Ok((values, proof))
-    }
-
     /// Opens the requested matrices: their values at the points, and a proof that a verifier
     /// accepts where the matrices are of low degree (Circle STARKs, IACR ePrint 2024/278, sections
     /// 4 to 6).
@@ -221,6 +191,9 @@ impl<
     {
         let points = self.opening_points(alloc)?;
         let matrices = self.matrices_at_points(alloc, &points)?;
-        self.open_matrices(alloc, &matrices, challenger)
+        let values = self.requested_values(alloc, &matrices)?;
+        let words = self.play(alloc, &matrices, &values, challenger)?;
+        let proof = self.prove_words(alloc, words)?;
+        Ok((values, proof))
     }
 }

@@ -2,7 +2,8 @@
 ghost use Rattle.std.specs.Prelude.{◌<◌, All, IfOk};
 ghost use Rattle.circle_commit.specs.Mmcs.{opened_rows};
 ghost use Rattle.circle_commit.specs.Pcs.{openings};
-ghost use Rattle.circle_prover.specs.OfRequests.{AreAnsweredBy, AreMatricesAt, AreValuesOfEach};
+ghost use Rattle.circle_prover.specs.OfRequests.{AreAnsweredBy, AreHigh, AreMatricesAt};
+ghost use Rattle.circle_prover.specs.OfRequests.{AreValuesOfEach};
 
 use crate::openable::OpenableRequests;
 use circle_codewords::{MatrixAtPoints, PointWeights};
@@ -45,7 +46,9 @@ impl<
         alloc: Global,
         matrices: &[MatrixAtPoints<Val, EF>],
     ) -> Result<OpenedValues<EF>, AllocError>
-        requires { AreMatricesAt self.now matrices.now }
+        // The second follows from the first, as in `matrices_at_points`.
+        requires matrices { AreMatricesAt self.now matrices.now }
+        requires high { AreHigh self.now matrices.now }
         ensures { IfOk result (λ v. AreAnsweredBy self.now (openings v.items)) }
     {
         let mut all = Vec::new(alloc);

@@ -32,7 +32,7 @@ batch_values-requires g c =
     subst (All IsHigh) (sym c.split_at-in-loop-request.ensures.front)
     (All-take IsHigh c.len.result c.split_at.result.1.now
     (subst (All IsHigh) (sym c.split_at.ensures.back)
-    (All-drop IsHigh c.loop-request.done c.args.matrices.now c.requires.1)))
+    (All-drop IsHigh c.loop-request.done c.args.matrices.now c.requires.high)))
 
 pub loop-request-preserved : goal.loop-request-preserved
 loop-request-preserved g c =
