@@ -100,8 +100,8 @@ pub trait GrindingChallenger<F: Field>: CanObserve<F> + CanSampleBits {
 /// What a challenger over the field `F` absorbs and gives of the extension `EF`, and what it is to
 /// a transcript whose challenges are there.
 ///
-/// Each challenger that samples and grinds has it, so no function requires it: a clause cites `⟦<C
-/// as FieldChallenger<F, EF>>⟧.moves`.
+/// Each challenger that samples and grinds has it, so no function requires it: a clause quotes the
+/// impl, and reads `moves` of it.
 pub trait FieldChallenger<F: Field, EF: ExtensionField<F>>: CanSample<F> + GrindingChallenger<F> {
     ghost moves: { Moves Self Self.State F EF };
 
@@ -159,8 +159,7 @@ impl<F: Field, EF: ExtensionField<F>, C: CanSample<F> + GrindingChallenger<F>> F
     } };
 }
 
-/// The same for a challenger that absorbs commitments of the type `Com` too: a clause cites `⟦<C as
-/// RunChallenger<F, EF, Com>>⟧.run`.
+/// The same for a challenger that absorbs commitments of the type `Com` too: a clause reads `run`.
 pub trait RunChallenger<F: Field, EF: ExtensionField<F>, Com>: FieldChallenger<F, EF>
     + CanObserve<Com> {
     ghost run: { RunMoves Self Self.State F EF Com };

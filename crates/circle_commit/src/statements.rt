@@ -11,8 +11,8 @@ use circle_field::ExtensionField;
 
 /// What the members of a scheme say together, for contracts alone.
 ///
-/// Each scheme has it, so no function requires it: a clause cites `⟦<P as Statements<Challenge,
-/// C>>⟧.is_honest`.
+/// Each scheme has it, so no function requires it: a clause quotes the impl, and reads `is_honest`
+/// of it.
 pub trait Statements<Challenge, C: ChallengerState>: Pcs<Challenge, C>
 where
     Challenge: ExtensionField<<Self::Domain as PolynomialSpace>::Val>,

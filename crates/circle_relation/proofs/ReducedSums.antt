@@ -4,15 +4,15 @@ use Rattle.std.proofs.Common.{refl, sym, ◌∙◌, ap, arith}
 use Rattle.std.proofs.lemmas.List.{append_assoc, append-nil}
 use Rattle.circle_field.specs.Field.{FieldOps, RingLaws, nth_power}
 use Rattle.circle_field.specs.RingFacts.{add_zero}
-use Rattle.circle_field.specs.Circle.{Coordinates, lifted}
+use Rattle.circle_field.specs.Circle.{Coordinates}
 use Rattle.circle_field.proofs.Powers.{nth_power-+}
 use Rattle.circle_point.specs.Projective.{from_line}
 use Rattle.circle_commit.proofs.Written.{length-pairwise, pairwise-read}
 use Rattle.circle_commit.specs.DotProduct.{pairwise}
 use Rattle.circle_folding.specs.Quotient.{claim_quotient}
-use Rattle.circle_folding.specs.Queries.{claim_quotients, with_multiples, Meets}
+use Rattle.circle_folding.specs.Queries.{claim_quotients, with_multiples}
 use Rattle.circle_relation.specs.Statement.{PointClaim}
-use Rattle.circle_relation.specs.Sums.{reduced, Adds, AreApartFrom}
+use Rattle.circle_relation.specs.Sums.{reduced, Adds}
 
 module _ {F E : Type 0} (l : FieldOps E) (embed : F → E) (alpha : E) (points : List (Coordinates F))
     (none : Coordinates F) where
@@ -128,12 +128,3 @@ module _ {F E : Type 0} {l : FieldOps E} (laws : RingLaws l) (embed : F → E) (
       ∙ ap (λ s. l.add s (reduced l embed alpha 0 x (claims j ++ []))) begun
       ∙ laws.zero_add (reduced l embed alpha 0 x (claims j ++ []))
       ∙ ap (reduced l embed alpha 0 x) (append-nil (claims j))
-
--- a claimed point that is one of some points
-pub meets-not : {F E : Type 0} (l : FieldOps E) (embed : F → E) (points : List (Coordinates F))
-    (claims : List (PointClaim E)) (i : ℕ) (claim : PointClaim E) (z : Coordinates E) →
-    i < length claims → slice_index_or claims i claim ≡ claim → z ≡ from_line l claim.point →
-    Meets embed points z → AreApartFrom l embed points claims → ⊥
-meets-not l embed points claims i claim z lt is is_z meets apart =
-    apart i claim lt meets.0 meets.1 meets.2 (ap (lifted embed) meets.3 ∙ meets.4 ∙ is_z
-    ∙ ap (λ (c : PointClaim _). from_line l c.point) (sym is))

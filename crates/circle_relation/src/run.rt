@@ -8,8 +8,8 @@ use circle_point::Point;
 ///
 /// Each extension has it, so no function requires it. A struct whose ghost field cites `EF.fields`
 /// has it as a bound, and a clause reads the fields off a value of the struct; where there is no
-/// such value, it cites `⟦<EF as OverCircle<F>>⟧.fields`. The trait stands on `Copy` alone because
-/// each trait below a bound of a struct is an argument of its type in `specs/`.
+/// such value, it quotes the impl. The trait stands on `Copy` alone because each trait below a
+/// bound of a struct is an argument of its type in `specs/`.
 pub trait OverCircle<F>: Copy {
     ghost fields: { Fields F Self };
 }
