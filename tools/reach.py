@@ -10,7 +10,7 @@ import functools
 import hashlib
 import re
 
-from tools.sources import Source
+from tools.sources import Source, blank, is_comment
 
 WORD = re.compile(r"[^\W\d][\w-]*")
 # Lines of a file of specs/ that say nothing: comments, imports, modules.
@@ -31,7 +31,7 @@ class Item:
 
 def items_of_source(place, text):
     """The items of a file of src/."""
-    source = Source(place, text)
+    source, uncommented = Source(place, text), blank(text, is_comment)
     for it in source.functions:
         start, end = it.span
         yield Item(place, source.plain[start : it.body[0] if it.body else end], [it.name])
@@ -39,7 +39,8 @@ def items_of_source(place, text):
         if kind == "impl":
             yield Item(place, plain, WORD.findall(plain))
         elif not re.match(r"\s*(?:pub(?:\(\w+\))?\s+)?ghost\s+use\b", plain):
-            yield Item(place, text[start : start + len(plain)], DECLARED_RT.findall(plain))
+            said = uncommented[start : start + len(plain)]
+            yield Item(place, said, DECLARED_RT.findall(plain))
 
 
 def items_of_specs(place, text):

@@ -16,15 +16,22 @@ BEGINS_CLAUSE = re.compile(
 BUILT_IN = {"()": "Unit"}
 
 
-def without_comments(text):
-    """The text with spaces in place of comments, texts and characters."""
+def is_comment(token):
+    return token.startswith(("//", "/*"))
 
-    def blank(found):
-        word = found[0]
-        is_blanked = word.startswith(("//", "/*", '"', 'r"')) or re.fullmatch(r"'.+'", word, re.S)
-        return re.sub(r"[^\n]", " ", word) if is_blanked else word
 
-    return TOKEN.sub(blank, text)
+def is_silent(token):
+    """Whether a token is a comment, a text or a character."""
+    return is_comment(token) or re.fullmatch(r"""r?".*|'.+'""", token, re.S) is not None
+
+
+def blank(text, is_blanked):
+    """The text with spaces in place of the tokens of which this is true."""
+
+    def spaces(found):
+        return re.sub(r"[^\n]", " ", found[0]) if is_blanked(found[0]) else found[0]
+
+    return TOKEN.sub(spaces, text)
 
 
 def closing(text, at):
@@ -144,7 +151,7 @@ class Source:
 
     def __init__(self, path, text):
         self.path, self.text = path, text
-        self.plain = without_comments(text)
+        self.plain = blank(text, is_silent)
         self.functions, self.items = [], []
         self.read(0, len(self.plain), module_of(path), None, True)
 
