@@ -42,6 +42,19 @@ module _ (start t : List ℕ) where
         few,
       )
 
+  pub brace_part : t ≡ start ++ codes "}" → length start ≤ 85 → length t < 128
+  brace_part is few = omega (arith, ap length is, length-append start (codes "}"), few)
+
+-- all parts before the brace
+pub parts_before_brace : {none begun first named both : List ℕ} (constraint row : ℕ) →
+    constraint < 2 ^ 64 → row < 2 ^ 64 → none ≡ [] → begun ≡ none ++ codes "{\"constraint\":" →
+    first ≡ begun ++ decimal constraint →
+    named ≡ first ++ codes ",\"refused\":\"Unsatisfied\",\"row\":" →
+    both ≡ named ++ decimal row → length both ≤ 85
+parts_before_brace constraint row fits small none begun first named both =
+    number_part _ _ row 65 small both
+    (name_part _ _ named (number_part _ _ constraint 14 fits first (first_part _ _ none begun)))
+
 -- a part more, where there is room for it
 pub with_room : (start more : List ℕ) (m n : ℕ) → length start ≤ m → length more ≤ n →
     m + n ≤ 128 → length (start ++ more) ≤ 128

@@ -2,8 +2,7 @@
 use Rattle.std.specs.Prelude.{◌≡◌, ℕ, ◌++◌, List, codes}
 use Rattle.std.specs.Fmt.{decimal}
 use Rattle.circle_json.specs.declared.error.JsonError.{JsonError}
-use Rattle.circle_commands.specs.Failure.{IsFailureOfJson as IsCommonOfJson, line_of, refused_line}
-use Rattle.circle_commands.specs.Failure.{status_of}
+use Rattle.circle_commands.specs.Failure.{IsFailureOfJson as IsCommonOfJson, line_of, status_of}
 use Rattle.circle_commands.specs.declared.failure.Failure.TheVariants as common
 use Rattle.stark_commands.specs.Named.{check_name, prove_name, verify_name}
 use Rattle.stark_commands.specs.declared.check.Refusal.{Refusal}
@@ -16,26 +15,34 @@ use Rattle.stark_commands.specs.declared.failure.Failure.TheVariants.{Common, Re
 use Rattle.stark_commands.specs.declared.failure.Reason.{Reason}
 use Rattle.stark_commands.specs.declared.failure.Reason.TheVariants.{Check, Prove, Verify}
 
--- the line of a constraint that doesn't hold at a row
-abbrev pub unsatisfied_line : ℕ → ℕ → List ℕ
-unsatisfied_line constraint row =
-    codes "{\"constraint\":" ++ decimal constraint
-    ++ codes ",\"refused\":\"Unsatisfied\",\"row\":" ++ decimal row ++ codes "}\n"
+-- the text of an input that is refused
+abbrev pub refused_text : List ℕ → List ℕ
+refused_text name = codes "{\"refused\":\"" ++ name ++ codes "\"}"
 
--- the line of a refusal of the command `check`
-abbrev pub check_line : Refusal → List ℕ
-check_line (Unsatisfied violation) = unsatisfied_line violation.constraint violation.row
-check_line refusal = refused_line (check_name refusal)
+-- that of a constraint that doesn't hold at a row
+abbrev pub unsatisfied_text : ℕ → ℕ → List ℕ
+unsatisfied_text constraint row =
+    codes "{\"constraint\":" ++ decimal constraint
+    ++ codes ",\"refused\":\"Unsatisfied\",\"row\":" ++ decimal row ++ codes "}"
+
+-- the text of a refusal of the command `check`
+abbrev pub check_text : Refusal → List ℕ
+check_text (Unsatisfied violation) = unsatisfied_text violation.constraint violation.row
+check_text refusal = refused_text (check_name refusal)
 
 -- and of `prove`
-abbrev pub prove_line : Unproved → List ℕ
-prove_line (Prover (BadTrace row constraint)) = unsatisfied_line constraint row
-prove_line refusal = refused_line (prove_name refusal)
+abbrev pub prove_text : Unproved → List ℕ
+prove_text (Prover (BadTrace row constraint)) = unsatisfied_text constraint row
+prove_text refusal = refused_text (prove_name refusal)
 
+abbrev pub reason_text : Reason → List ℕ
+reason_text (Check refusal) = check_text refusal
+reason_text (Prove refusal) = prove_text refusal
+reason_text (Verify refusal) = refused_text (verify_name refusal)
+
+-- the line that a refusal is written as
 abbrev pub reason_line : Reason → List ℕ
-reason_line (Check refusal) = check_line refusal
-reason_line (Prove refusal) = prove_line refusal
-reason_line (Verify refusal) = refused_line (verify_name refusal)
+reason_line reason = reason_text reason ++ codes "\n"
 
 -- 2 where the input can't be read, 1 where it is refused
 abbrev pub failure_status : Failure → ℕ

@@ -2,8 +2,8 @@
 ghost use Rattle.std.specs.Prelude.{◌≡◌, ◌+◌, ◌<◌, ◌≤◌, [], ◌∷◌, ◌++◌, length};
 ghost use Rattle.std.specs.Fmt.{decimal};
 ghost use Rattle.std.specs.Fmt.InlineText.{inline_text};
-ghost use Rattle.circle_commands.specs.Failure.{refused_line};
-ghost use Rattle.stark_commands.specs.Failure.{prove_line, reason_line, unsatisfied_line};
+ghost use Rattle.stark_commands.specs.Failure.{prove_text, reason_line, reason_text, refused_text};
+ghost use Rattle.stark_commands.specs.Failure.{unsatisfied_text};
 
 use crate::{check, prove, verify};
 use circle_commands::Failure as Common;
@@ -41,32 +41,45 @@ pub enum Reason {
 }
 
 impl Reason {
-    /// The line that the refusal is written as: its name, and of `Unsatisfied` the row and the
-    /// constraint.
-    pub fn line(&self) -> InlineText<LINE_LEN>
-        ensures { inline_text result ≡ reason_line self.now }
+    /// The refusal in JSON: its name, and of `Unsatisfied` the row and the constraint.
+    pub fn text(&self) -> InlineText<LINE_LEN>
+        ensures text { inline_text result ≡ reason_text self.now }
+        ensures room { length (inline_text result) < 128 }
     {
         match self {
             Reason::Check(check::Refusal::Unsatisfied(violation)) => {
                 unsatisfied(violation.constraint, violation.row)
             }
             Reason::Check(refusal) => refused(refusal.name()),
-            Reason::Prove(refusal) => prove_line(refusal),
+            Reason::Prove(refusal) => prove_text(refusal),
             Reason::Verify(refusal) => refused(refusal.name()),
         }
     }
-}
 
-/// The line of the refusal, without its newline.
-impl fmt::Display for Reason {
-    fn fmt<W: fmt::Write>(&self, f: &mut fmt::Formatter<W>) -> fmt::Result {
-        f.write_str(self.line().as_str().trim_end())
+    /// The line that the refusal is written as: its text and a newline.
+    pub fn line(&self) -> InlineText<LINE_LEN>
+        ensures { inline_text result ≡ reason_line self.now }
+    {
+        with(self.text(), "\n")
     }
 }
 
-// The line of a refusal of `prove`.
-fn prove_line(refusal: &prove::Refusal) -> InlineText<LINE_LEN>
-    ensures { inline_text result ≡ prove_line refusal.now }
+/// The refusal's text.
+impl fmt::Display for Reason {
+    ghost use Rattle.std.specs.Prelude.{Some};
+    ghost use Rattle.stark_commands.specs.Failure.{reason_text};
+
+    ghost output = { λ reason. Some (reason_text reason) };
+
+    fn fmt<W: fmt::Write>(&self, f: &mut fmt::Formatter<W>) -> fmt::Result {
+        f.write_str(self.text().as_str())
+    }
+}
+
+// The text of a refusal of `prove`.
+fn prove_text(refusal: &prove::Refusal) -> InlineText<LINE_LEN>
+    ensures text { inline_text result ≡ prove_text refusal.now }
+    ensures room { length (inline_text result) < 128 }
 {
     match refusal {
         prove::Refusal::Prover(StarkProverError::Unsatisfied { row, constraint }) => {
@@ -76,24 +89,26 @@ fn prove_line(refusal: &prove::Refusal) -> InlineText<LINE_LEN>
     }
 }
 
-// The line of an input that is refused.
+// The text of an input that is refused.
 fn refused(name: &str) -> InlineText<LINE_LEN>
     requires { length name.now ≤ 40 }
-    ensures { inline_text result ≡ refused_line name.now }
+    ensures text { inline_text result ≡ refused_text name.now }
+    ensures room { length (inline_text result) < 128 }
 {
     with(
         with(with(InlineText::new(), "{\"refused\":\""), name),
-        "\"}\n",
+        "\"}",
     )
 }
 
-// The line of a constraint that doesn't hold at a row.
+// The text of a constraint that doesn't hold at a row.
 fn unsatisfied(constraint: usize, row: usize) -> InlineText<LINE_LEN>
-    ensures { inline_text result ≡ unsatisfied_line constraint row }
+    ensures text { inline_text result ≡ unsatisfied_text constraint row }
+    ensures room { length (inline_text result) < 128 }
 {
     let begun = with_number(with(InlineText::new(), "{\"constraint\":"), constraint);
     let named = with_number(with(begun, ",\"refused\":\"Unsatisfied\",\"row\":"), row);
-    with(named, "}\n")
+    with(named, "}")
 }
 
 // The text with another after it.
