@@ -37,62 +37,57 @@ parts_given input = parts_of input.air
 abbrev pub rows_given : Input → List (List Mersenne31)
 rows_given input = lists input.rows.items
 
--- the parts make an AIR
-abbrev pub HasAir : Input → Type 0
-HasAir input = refusal (parts_given input) ≡ None
+module _ (parts : Parts Mersenne31) (rows : List (List Mersenne31)) (public : List Mersenne31) where
+  -- the parts make an AIR
+  abbrev pub HasAir : Type 0
+  HasAir = refusal parts ≡ None
 
--- the parts make an AIR, and all rows have one length, which isn't 0
-abbrev pub HasRows : Input → Type 0
-HasRows input = HasAir input × IsRectangular (rows_given input)
+  -- the parts make an AIR, and all rows have one length, which isn't 0
+  abbrev pub HasRows : Type 0
+  HasRows = HasAir × IsRectangular rows
 
--- `HasRows`, and the number of rows is a power of two
-abbrev pub HasHeight : Input → Type 0
-HasHeight input = HasRows input × IsPowerOfTwo (length (rows_given input))
+  -- `HasRows`, and the number of rows is a power of two
+  abbrev pub HasHeight : Type 0
+  HasHeight = HasRows × IsPowerOfTwo (length rows)
 
--- `HasHeight`, and there are as many public values as the AIR has
-abbrev pub HasPublicValues : Input → Type 0
-HasPublicValues input =
-    HasHeight input
-    × (length input.public_values.items ≡ (parts_given input).num_public_values)
+  -- `HasHeight`, and there are as many public values as the AIR has
+  abbrev pub HasPublicValues : Type 0
+  HasPublicValues = HasHeight × (length public ≡ parts.num_public_values)
 
--- `HasPublicValues`, and the rows have the AIR's width
-abbrev pub HasWidth : Input → Type 0
-HasWidth input =
-    HasPublicValues input × (row_length (rows_given input) ≡ (parts_given input).width)
+  -- `HasPublicValues`, and the rows have the AIR's width
+  abbrev pub HasWidth : Type 0
+  HasWidth = HasPublicValues × (row_length rows ≡ parts.width)
 
--- no period is longer than the trace
-abbrev pub ArePeriodsShort : Input → Type 0
-ArePeriodsShort input =
-    All (λ column. length column ≤ length (rows_given input))
-    (parts_given input).periodic_columns
+  -- no period is longer than the trace
+  abbrev pub ArePeriodsShort : Type 0
+  ArePeriodsShort = All (λ column. length column ≤ length rows) parts.periodic_columns
 
--- `HasWidth`, and no period is longer than the trace
-abbrev pub IsFitting : Input → Type 0
-IsFitting input = HasWidth input × ArePeriodsShort input
+  -- `HasWidth`, and no period is longer than the trace
+  abbrev pub IsFitting : Type 0
+  IsFitting = HasWidth × ArePeriodsShort
+
+  -- why a trace is refused, each where no earlier reason holds
+  abbrev pub IsRefused : Refusal → Type 0
+  IsRefused (Air error) = refusal parts ≡ Some error
+  IsRefused RaggedRows = HasAir × (¬ IsRectangular rows)
+  IsRefused HeightNotPowerOfTwo = HasRows × (¬ IsPowerOfTwo (length rows))
+  IsRefused PublicValuesMismatch = HasHeight × (¬ (length public ≡ parts.num_public_values))
+  IsRefused WidthMismatch = HasPublicValues × (¬ (row_length rows ≡ parts.width))
+  IsRefused PeriodTooLong = HasWidth × (¬ ArePeriodsShort)
+  IsRefused (Unsatisfied violation) =
+      IsFitting × IsFirstViolation operations parts rows public violation
+  IsRefused Memory = ⊥
 
 -- the AIR is accepted, the trace fits it and satisfies it
 pub record IsSatisfied (input : Input) : Type 0 where
-  pub fitting : IsFitting input
+  pub fitting : IsFitting (parts_given input) (rows_given input) input.public_values.items
   pub satisfies :
       Satisfies operations (parts_given input) (rows_given input) input.public_values.items
 
--- why an input is refused, each where no earlier reason holds
+-- why an input is refused
 abbrev pub IsUnsatisfied : Input → Refusal → Type 0
-IsUnsatisfied input (Air error) = refusal (parts_given input) ≡ Some error
-IsUnsatisfied input RaggedRows = HasAir input × (¬ IsRectangular (rows_given input))
-IsUnsatisfied input HeightNotPowerOfTwo =
-    HasRows input × (¬ IsPowerOfTwo (length (rows_given input)))
-IsUnsatisfied input PublicValuesMismatch =
-    HasHeight input
-    × (¬ (length input.public_values.items ≡ (parts_given input).num_public_values))
-IsUnsatisfied input WidthMismatch =
-    HasPublicValues input × (¬ (row_length (rows_given input) ≡ (parts_given input).width))
-IsUnsatisfied input PeriodTooLong = HasWidth input × (¬ ArePeriodsShort input)
-IsUnsatisfied input (Unsatisfied violation) =
-    IsFitting input
-    × IsFirstViolation operations (parts_given input) (rows_given input)
-    input.public_values.items violation
-IsUnsatisfied input Memory = ⊥
+IsUnsatisfied input =
+    IsRefused (parts_given input) (rows_given input) input.public_values.items
 
 -- the line of rows that satisfy the AIR
 abbrev pub satisfied_line : List ℕ

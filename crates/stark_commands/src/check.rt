@@ -1,8 +1,9 @@
 //! The command `check`: whether the rows of a trace satisfy an AIR.
-ghost use Rattle.std.specs.Prelude.{◌≡◌, ◌≤◌, ◌⊎◌, ◌↔◌, All, IfErr, IsTrue, OnOk, length, vec_len};
+ghost use Rattle.std.specs.Prelude.{◌≡◌, ◌≤◌, ◌⊎◌, ◌↔◌, All, IfErr, IsTrue, MatchResult, OnOk};
+ghost use Rattle.std.specs.Prelude.{length, vec_len};
 ghost use Rattle.circle_air.specs.Air.{air_of};
 ghost use Rattle.circle_commands.specs.Rows.{lists, row_length};
-ghost use Rattle.stark_commands.specs.Check.{IsSatisfied, IsUnsatisfied};
+ghost use Rattle.stark_commands.specs.Check.{IsFitting, IsRefused, IsSatisfied, IsUnsatisfied};
 ghost use Rattle.stark_commands.specs.Named.{check_name};
 ghost use Rattle.stark_commands.specs.declared.check.Refusal.TheVariants.{Memory};
 
@@ -149,7 +150,24 @@ pub fn check(alloc: Global, input: Input) -> Result<(), Refusal>
         rows,
     } = input;
     let air = Air::try_new(alloc, air)?;
-    if !is_rectangular(&rows) {
+    validate_trace(&air, &rows, &public_values)?;
+    let matrix = matrix(alloc, &rows)?;
+    match check_constraints(alloc, &air, &matrix, &public_values)? {
+        None => Ok(()),
+        Some(violation) => Err(Refusal::Unsatisfied(violation)),
+    }
+}
+
+// Refuses a trace that doesn't fit the AIR, for the first reason.
+fn validate_trace(
+    air: &Air<Mersenne31>,
+    rows: &[Vec<Mersenne31>],
+    public_values: &[Mersenne31],
+) -> Result<(), Refusal>
+    ensures { let p = air_of air.now in let rows = lists rows.now in MatchResult result
+        (λ _. IsFitting p rows public_values.now) (IsRefused p rows public_values.now) }
+{
+    if !is_rectangular(rows) {
         return Err(Refusal::RaggedRows);
     }
     if !is_power_of_two(rows.len()) {
@@ -158,17 +176,13 @@ pub fn check(alloc: Global, input: Input) -> Result<(), Refusal>
     if public_values.len() != air.num_public_values() {
         return Err(Refusal::PublicValuesMismatch);
     }
-    if first_len(&rows) != air.width() {
+    if first_len(rows) != air.width() {
         return Err(Refusal::WidthMismatch);
     }
-    if !are_periods_short(&air, rows.len()) {
+    if !are_periods_short(air, rows.len()) {
         return Err(Refusal::PeriodTooLong);
     }
-    let matrix = matrix(alloc, &rows)?;
-    match check_constraints(alloc, &air, &matrix, &public_values)? {
-        None => Ok(()),
-        Some(violation) => Err(Refusal::Unsatisfied(violation)),
-    }
+    Ok(())
 }
 
 // The length of the first row, and 0 where there is none.
