@@ -31,7 +31,8 @@
 //! ```
 //!
 //! Not absorbed are the claims' own commitments, which are for the caller to absorb before it draws
-//! points, and what is tested against a commitment later: lambdas, opened rows and siblings.
+//! points; opened rows and siblings, which are tested against commitments; and the lambdas, which
+//! nothing fixes: a prover can choose them after the queries.
 //!
 //! What is proved, for any field, extension, commitment and lawful challenger:
 //!

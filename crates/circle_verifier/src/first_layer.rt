@@ -56,10 +56,10 @@ impl<
     /// pairs at the queries: for each query its pairs, one for each height, and for each height
     /// what they fold into.
     ///
-    /// The transcript takes no lambda in, and needs none: it has the commitment to the first layer,
-    /// and the pairs are made with lambda and tested against that commitment. As the vanishing
-    /// polynomial is 0 at no point of a height's codeword, a lambda that isn't that of the
-    /// committed codewords makes other pairs, which authenticate only where digests collide.
+    /// The transcript absorbs no lambda, and nothing fixes one before the queries are drawn. The
+    /// commitment to the first layer binds both members of a pair, but a prover that knows the
+    /// queries can choose a height's lambda so that the member at one of them is what it committed
+    /// to, whatever it claims. So one query adds no security.
     ///
     /// The twiddles of all heights are inverted together. Fails where memory is refused.
     pub fn fold_first_layer(
