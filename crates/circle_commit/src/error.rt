@@ -107,14 +107,6 @@ pub enum FriError<CommitErr, InputErr> {
         /// The number of siblings that there are.
         got: usize,
     },
-    /// The final polynomial has a wrong number of coefficients.
-    #[error("the final polynomial has {got} coefficients, and {expected} are due")]
-    FinalPolyLengthMismatch {
-        /// The number of coefficients that are due.
-        expected: usize,
-        /// The number of coefficients that there are.
-        got: usize,
-    },
     /// A claimed point is at infinity: its coordinate belongs to no point of the circle.
     #[error("a claimed point is at infinity")]
     PointAtInfinity,
@@ -138,6 +130,14 @@ pub enum FriError<CommitErr, InputErr> {
     /// Memory was refused.
     #[error("out of memory")]
     Memory,
+    /// The final polynomial has a wrong number of coefficients.
+    #[error("the final polynomial has {got} coefficients, and {expected} are due")]
+    FinalPolyLengthMismatch {
+        /// The number of coefficients that are due.
+        expected: usize,
+        /// The number of coefficients that there are.
+        got: usize,
+    },
 }
 
 impl<CommitErr, InputErr: Named> FriError<CommitErr, InputErr> {
@@ -159,13 +159,13 @@ impl<CommitErr, InputErr: Named> FriError<CommitErr, InputErr> {
             FriError::CommitPhaseOpeningsCountMismatch { .. } => "CommitPhaseOpeningsCountMismatch",
             FriError::CommitPhaseQueryCountMismatch { .. } => "CommitPhaseQueryCountMismatch",
             FriError::SiblingValuesLengthMismatch { .. } => "SiblingValuesLengthMismatch",
-            FriError::FinalPolyLengthMismatch { .. } => "FinalPolyLengthMismatch",
             FriError::PointAtInfinity => "PointAtInfinity",
             FriError::InvalidPowWitness(_) => "InvalidPowWitness",
             FriError::FinalPolyMismatch => "FinalPolyMismatch",
             FriError::UnconsumedReducedOpenings { .. } => "UnconsumedReducedOpenings",
             FriError::CommitPhaseMmcsError(_) => "CommitPhaseMmcsError",
             FriError::Memory => "Memory",
+            FriError::FinalPolyLengthMismatch { .. } => "FinalPolyLengthMismatch",
         }
     }
 }
