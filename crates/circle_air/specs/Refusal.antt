@@ -78,11 +78,16 @@ constraints_refusal nodes j (c ∷ constraints) =
     if nat_lt c.node nodes then constraints_refusal nodes (j + 1) constraints
     else Some (ConstraintOutOfRange j)
 
--- why the parts make no AIR
-abbrev pub refusal : {F : Type 0} → Parts F → Option AirError
-refusal p =
-    if nat_eq p.width 0 then Some NoColumns
-    else option_or (periods_refusal 0 p.periodic_columns)
-    (option_or (nodes_refusal p [] p.nodes)
-    (if nat_eq (length p.constraints) 0 then Some NoConstraints
-    else constraints_refusal (length p.nodes) 0 p.constraints))
+module _ {F : Type 0} where
+  -- why the columns alone make no AIR; nothing else is tested without memory
+  abbrev pub columns_refusal : Parts F → Option AirError
+  columns_refusal p =
+      if nat_eq p.width 0 then Some NoColumns else periods_refusal 0 p.periodic_columns
+
+  -- why the parts make no AIR
+  abbrev pub refusal : Parts F → Option AirError
+  refusal p =
+      option_or (columns_refusal p)
+      (option_or (nodes_refusal p [] p.nodes)
+      (if nat_eq (length p.constraints) 0 then Some NoConstraints
+      else constraints_refusal (length p.nodes) 0 p.constraints))

@@ -1,8 +1,9 @@
 //! Constraints that were tested.
-ghost use Rattle.std.specs.Prelude.{◌≡◌, ◌+◌, ◌^◌, ◌≤◌, ◌⊎◌, IfErr, IfOk, None, Some, length, map, IsTrue, is_none};
+ghost use Rattle.std.specs.Prelude.{◌≡◌, ◌+◌, ◌^◌, ◌≤◌, ◌⊎◌, Err, IfErr, IfOk, IfSome, None, Some};
+ghost use Rattle.std.specs.Prelude.{IsTrue, is_none, length, map};
 ghost use Rattle.circle_air.specs.Degrees.{IsLogOfChunks, degree_of_parts};
 ghost use Rattle.circle_air.specs.Parts.{parts_of};
-ghost use Rattle.circle_air.specs.Refusal.{refusal};
+ghost use Rattle.circle_air.specs.Refusal.{columns_refusal, refusal};
 ghost use Rattle.circle_air.specs.declared.error.AirError.TheVariants.{Memory};
 
 use crate::error::AirError;
@@ -13,8 +14,8 @@ use std::alloc::Global;
 /// Constraints on the rows of a trace (an algebraic intermediate representation), tested.
 ///
 /// Each node reads columns, periodic columns and public values that are there, and earlier nodes;
-/// no degree is above `2^30`; the lengths of the periodic columns are powers of two; there are
-/// constraints, on nodes that are there.
+/// no node's degree is above `2^30`; the lengths of the periodic columns are powers of two; there
+/// are constraints, on nodes that are there.
 #[derive(Drop)]
 pub struct Air<F> {
     parts: AirParts<F>,
@@ -29,11 +30,13 @@ impl<F: Copy> Air<F> {
 
     /// The AIR of these parts.
     ///
-    /// Fails by the first reason to refuse them, or as `Memory`.
+    /// Fails by the first reason to refuse them, or as `Memory`. The columns are tested first and
+    /// without memory, so a reason to refuse them is returned even when out of memory.
     pub fn try_new(alloc: Global, parts: AirParts<F>) -> Result<Self, AirError>
         ensures accepts { IfOk result (λ _. refusal (parts_of parts) ≡ None) }
         ensures same { IfOk result (λ air. air_of air ≡ parts_of parts) }
         ensures refuses { IfErr result (λ e. (e ≡ Memory) ⊎ (refusal (parts_of parts) ≡ Some e)) }
+        ensures columns { IfSome (columns_refusal (parts_of parts)) (λ e. result ≡ Err e) }
     {
         if parts.width == 0 {
             return Err(AirError::NoColumns);

@@ -4,8 +4,9 @@
 //! What is proved, for every lawful field:
 //!
 //! - `Air::try_new` returns the AIR of its parts, or the first reason to refuse them, unless out of
-//!   memory. What it tests is a fact of each `Air`: nodes read columns, periodic columns and public
-//!   values that are there, and earlier nodes; degrees are at most `2^30`.
+//!   memory. It refuses unfit columns without allocating. What it tests is a fact of each `Air`:
+//!   nodes read columns, periodic columns and public values that are there, and earlier nodes; a
+//!   node's degree is at most `2^30`.
 //! - `max_constraint_degree` and `log_num_quotient_chunks` are by their definitions, and `digest`
 //!   is the SHA-256 of the AIR's text.
 //! - Each call of `AirBuilder` appends the nodes and the constraint that it names, or reports an
