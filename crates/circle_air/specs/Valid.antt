@@ -18,7 +18,7 @@ use Rattle.circle_air.specs.Parts.{Parts}
 use Rattle.circle_air.specs.Ranges.{IsInRange}
 use Rattle.circle_air.specs.Refusal.{is_out_of_order, lacks_column, lacks_periodic, lacks_public}
 use Rattle.circle_air.specs.Refusal.{node_refusal, nodes_refusal, periods_refusal}
-use Rattle.circle_air.specs.Refusal.{constraints_refusal, refusal}
+use Rattle.circle_air.specs.Refusal.{columns_refusal, constraints_refusal, refusal}
 
 neither : {T : Type 0} (x y : Option T) → option_or x y ≡ None → (x ≡ None) × (y ≡ None)
 neither None y h = (refl, h)
@@ -122,17 +122,17 @@ is_none-none (Some v) h = absurd (false≢true h)
 pub valid : {F : Type 0} (p : Parts F) → IsTrue (is_none (refusal p)) → IsValid p
 valid p h =
     let none = is_none-none (refusal p) h in
-    let columns = no_test _ _ _ none in
-    let after_columns = neither (periods_refusal 0 p.periodic_columns) _ columns.1 in
-    let after_periods = neither (nodes_refusal p [] p.nodes) _ after_columns.1 in
-    let after_nodes = no_test _ _ _ after_periods.1 in
-    let power = periods 0 p.periodic_columns after_columns.0 in record {
+    let first = neither (columns_refusal p) _ none in
+    let columns = no_test _ _ _ first.0 in
+    let after_columns = neither (nodes_refusal p [] p.nodes) _ first.1 in
+    let after_nodes = no_test _ _ _ after_columns.1 in
+    let power = periods 0 p.periodic_columns columns.1 in record {
       columns = let none = columns.0 in grind arith;
       nodes =
           λ i d below. subst
           (λ j. IsInRange p.width (length p.periodic_columns) p.num_public_values j
           (slice_index_or p.nodes i d)) (omega arith)
-          (nodes_in_range p [] p.nodes after_periods.0 i d below);
+          (nodes_in_range p [] p.nodes after_columns.0 i d below);
       constraint_nodes = constraint_nodes (length p.nodes) 0 p.constraints after_nodes.1;
       periods = power;
       periods_positive = λ i d below. power_positive _ (power i d below);

@@ -1,22 +1,27 @@
--- The columns of a table of periodic columns.
-use Rattle.std.specs.Prelude.{◌≡◌, ℕ, ◌+◌, ◌-◌, ◌%◌, ◌^◌, ◌<◌, ◌≤◌, List, [], length, map}
+-- The table of a periodic column.
+use Rattle.std.specs.Prelude.{◌≡◌, ℕ, ◌+◌, ◌*◌, ◌%◌, ◌^◌, ◌<◌, ◌≤◌, List, [], ◌∷◌, length}
 use Rattle.std.specs.Prelude.{Some, slice_get, slice_index_or}
-use Rattle.std.proofs.Common.{sym, ◌∙◌, ap, subst, arith}
-use Rattle.std.proofs.Math.Nat.{mod-eq_of_lt, mod-lt}
-use Rattle.std.proofs.lemmas.List.{length-map}
+use Rattle.std.proofs.Common.{zero, suc, refl, sym, ◌∙◌, ap, subst, arith, pow-add}
+use Rattle.std.proofs.Math.Nat.{mod-eq_of_lt, mod-lt, mul-le-mul_right}
 use Rattle.std.proofs.lemmas.Nat.{pow_pos}
+use lib.Pow.{pow_mono}
 use Rattle.circle_field.specs.Field.{FieldOps}
 use Rattle.circle_field.specs.Circle.{Coordinates}
+use Rattle.circle_commit.specs.Matrix.{IsPowerOfTwo}
 use Rattle.circle_commit.specs.Mmcs.{greatest}
-use Rattle.circle_commit.specs.PeriodicLdeTable.{width_of, height_of, rows}
+use Rattle.circle_commit.specs.PeriodicLdeTable.{entry_at, height_of, rows}
 use Rattle.circle_commit.specs.declared.periodic.PeriodicLdeTable.{PeriodicLdeTable}
 use Rattle.circle_domain.specs.Domain.{log_size, shift_of}
 use Rattle.circle_domain.specs.Periodic.{IsPeriodicValue}
 use Rattle.circle_domain.specs.declared.domain.CircleDomain.{CircleDomain}
-use Rattle.circle_plane.specs.PeriodicColumns.{IsPeriodicTable, IsTableOn}
+use Rattle.circle_plane.specs.PeriodicColumns.{IsPeriodicTable, IsRefusal, IsTableOn}
+use Rattle.circle_plane.specs.declared.periodic.PeriodicError.{PeriodicError}
+use Rattle.circle_plane.specs.declared.periodic.PeriodicError.TheVariants.{Empty, HeightTooLarge}
+use Rattle.circle_plane.specs.declared.periodic.PeriodicError.TheVariants.{LongerThanTrace, Memory}
+use Rattle.circle_plane.specs.declared.periodic.PeriodicError.TheVariants.{NotPowerOfTwo}
 use Rattle.circle_plane.proofs.Periods.{greatest-positive}
 use Rattle.circle_air.specs.Values.{entry}
-use Rattle.circle_quotient.specs.Terms.{ArePeriodicColumns, AreTableColumns}
+use Rattle.circle_quotient.specs.Terms.{IsPeriodicColumn}
 
 some_same : {A : Type 0} (x y : A) → Some x ≡ Some y → x ≡ y
 some_same x y h = cc
@@ -38,41 +43,59 @@ standard-table {k = k} {gen = gen} {two_adicity = two_adicity} {columns = column
     columns table) shift is))
 
 module _ {F : Type 0} {k : FieldOps F} {gen : ℕ → Coordinates F} (two_adicity n kk : ℕ)
-    (fits : n + kk ≤ two_adicity) (columns : List (List F)) (table : PeriodicLdeTable F)
-    (is : IsPeriodicTable k gen two_adicity n (n + kk) (gen (n + kk + 1)) columns table) where
-  -- a table of some columns has rows
-  pub table-rows : 1 ≤ width_of table → 1 ≤ height_of table
-  table-rows some =
-      let periods = map length columns in
-      let longest : 1 ≤ greatest periods =
-      greatest-positive (2 ^ n) periods
-      (omega (arith, some, is.width, length-map columns length)) is.columns_fit in
+    (fits : n + kk ≤ two_adicity) (column : List F) (table : PeriodicLdeTable F)
+    (is : IsPeriodicTable k gen two_adicity n (n + kk) (gen (n + kk + 1)) (column ∷ []) table) where
+  -- a table of one column has rows
+  pub table-rows : 1 ≤ height_of table
+  table-rows =
+      let longest : 1 ≤ greatest (length column ∷ []) =
+      greatest-positive (2 ^ n) (length column ∷ []) (omega arith) is.columns_fit in
       let times = pow_pos (n + kk - n) in
       let height = is.height in
       grind (arith, longest, times, height)
 
-  -- so they are the columns' values
-  pub table-columns : (made : List (List F)) → AreTableColumns k table made →
-      ArePeriodicColumns k gen n kk columns made
-  table-columns made are = record {
-    count = are.count ∙ is.width;
-    positive = λ i d lt.
-        let some = table-rows (omega (arith, lt, are.count)) in
-        omega (arith, are.heights i d lt, some);
-    values = λ i c s here below.
-        let within : c < width_of table = omega (arith, below, is.width) in
-        let some = table-rows (omega (arith, within)) in
+  -- whose entries are the column's values
+  pub table-column : (made : List F) → length made ≡ height_of table →
+      ((i : ℕ) → i < height_of table → entry_at table i 0 ≡ Some (entry k made i)) →
+      IsPeriodicColumn k gen n kk column made
+  table-column made tall entries = record {
+    positive = let some = table-rows in omega (arith, tall, some);
+    values = λ i s here.
         let h = height_of table in
-        let column = slice_index_or made c [] in
-        let tall : length column ≡ h = are.heights c [] (omega (arith, within, are.count)) in
-        let small : i % h < h = mod-lt i some in
-        let told = is.values fits i c s here below in
+        let small : i % h < h = mod-lt i table-rows in
+        let told = is.values fits i 0 s here (omega arith) in
         let again : i % h % h ≡ i % h = mod-eq_of_lt small in
-        let same : told.0 ≡ entry k column (i % length column) =
-        some_same told.0 (entry k column (i % length column))
+        let same : told.0 ≡ entry k made (i % length made) =
+        some_same told.0 (entry k made (i % length made))
         (sym told.1
-        ∙ ap (λ j. slice_get (slice_index_or (rows table) j []) c) (sym again)
-        ∙ are.entries (i % h) c small within
-        ∙ ap (λ t. Some (entry k column (i % t))) (sym tall)) in
-        subst (IsPeriodicValue k gen k (λ x. x) n (slice_index_or columns c []) s) same told.2;
+        ∙ ap (λ j. slice_get (slice_index_or (rows table) j []) 0) (sym again)
+        ∙ entries (i % h) small
+        ∙ ap (λ t. Some (entry k made (i % t))) (sym tall)) in
+        subst (IsPeriodicValue k gen k (λ x. x) n column s) same told.2;
   }
+
+-- the table of a column that repeats over 2^n rows is refused only for want of memory
+pub only-memory : (n kk long : ℕ) → n + kk ≤ 62 → IsPowerOfTwo long → long ≤ 2 ^ n →
+    (e : PeriodicError) → IsRefusal (2 ^ n) (long ∷ []) kk e → e ≡ Memory
+only-memory n kk long small power most Empty (zero, below, before, fault) =
+    let positive = pow_pos power.0 in
+    absurd (omega (arith, fault, power.1, positive))
+only-memory n kk long small power most Empty (suc j, below, before, fault) =
+    absurd (omega (arith, below))
+only-memory n kk long small power most NotPowerOfTwo (zero, below, before, fault) =
+    absurd (fault.1 power)
+only-memory n kk long small power most NotPowerOfTwo (suc j, below, before, fault) =
+    absurd (omega (arith, below))
+only-memory n kk long small power most LongerThanTrace (zero, below, before, fault) =
+    let longer = fault.1 in absurd (omega (arith, most, longer))
+only-memory n kk long small power most LongerThanTrace (suc j, below, before, fault) =
+    absurd (omega (arith, below))
+only-memory n kk long small power most HeightTooLarge (fit, large) =
+    let whole : 2 ^ (n + kk) ≡ 2 ^ n * 2 ^ kk = pow-add 2 n kk in
+    let bound : 2 ^ (n + kk) ≤ 2 ^ 62 = pow_mono small in
+    let product : long * 2 ^ kk ≤ 2 ^ n * 2 ^ kk = mul-le-mul_right (2 ^ kk) most in
+    let alone : greatest (long ∷ []) ≡ long = omega arith in
+    let entries : 2 ^ 64 ≤ long * 2 ^ kk * 1 =
+    subst (λ h. 2 ^ 64 ≤ h * 2 ^ kk * 1) alone large in
+    absurd (omega (arith, entries, whole, bound, product))
+only-memory n kk long small power most Memory refused = refl

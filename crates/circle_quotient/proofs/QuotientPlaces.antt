@@ -6,7 +6,7 @@ use Rattle.std.proofs.Common.{zero, suc, sym, ◌∙◌, ap, refl, subst, arith,
 use Rattle.std.proofs.Math.ListN.{get_or-eq_default}
 use Rattle.std.proofs.Math.Nat.{mod-eq_of_lt}
 use Rattle.std.proofs.lemmas.Bool.{cases_lt}
-use Rattle.std.proofs.lemmas.List.{get_or-map, length-map}
+use Rattle.std.proofs.lemmas.List.{get_or-map, get_or_default, length-map}
 use Rattle.std.proofs.lemmas.List.FromFn.{length-map-range_with_len, get_or-map-range_with_len}
 use Rattle.std.proofs.lemmas.Option.{slice_get-get_or, slice_get_within, get_or_from_slice_get}
 use Rattle.circle_field.specs.Field.{FieldOps, FieldLaws, IsEmbedding}
@@ -62,7 +62,10 @@ terms-fit {k = k} {l = l} {gen = gen} n kk positive p alpha t are =
           ∙ length-map points (λ q. k.inv (vanishing_on k n s q)) ∙ long;
       periodic = sym (length-map t.periodic.items (λ column. column.items))
           ∙ are.periodic.count;
-      periods = are.periodic.positive;
+      periods = λ c d lt.
+          subst (λ (column : List F). 0 < length column)
+          (get_or_default (columns_of t.periodic.items) c [] d lt)
+          (are.periodic.each c lt).positive;
       weights = ap length are.weights ∙ length-falling_powers l alpha (length p.constraints);
       constraints = are.constraints;
     }
@@ -113,7 +116,7 @@ module _ {F E : Type 0} {k : FieldOps F} {l : FieldOps E} {m : F → E} (base : 
         let log = powers c [] lt in
         periodic-lifted base laws e gen n log.0 (slice_index_or p.periodic_columns c []) s
         (at (slice_index_or made c [])) (slice_index_or w.periodic c l.zero) log.1
-        (are.periodic.values i c s here lt) (each c lt)
+        ((are.periodic.each c (omega (arith, lt, long))).values i s here) (each c lt)
         ∙ ap m (sym (get_or-map at made c [] k.zero (omega (arith, lt, long)))))
         (λ (past : length p.periodic_columns ≤ c).
         get_or-eq_default w.periodic l.zero (omega (arith, past, count))

@@ -6,8 +6,6 @@ use Rattle.std.proofs.Common.{zero, suc}
 use Rattle.circle_field.specs.Field.{FieldOps, nth_power}
 use Rattle.circle_field.specs.Circle.{Coordinates}
 use Rattle.circle_commit.specs.DotProduct.{dot}
-use Rattle.circle_commit.specs.PeriodicLdeTable.{width_of, height_of, entry_at}
-use Rattle.circle_commit.specs.declared.periodic.PeriodicLdeTable.{PeriodicLdeTable}
 use Rattle.circle_domain.specs.Order.{natural_order}
 use Rattle.circle_domain.specs.Periodic.{IsPeriodicValue}
 use Rattle.circle_air.specs.declared.node.Constraint.{Constraint}
@@ -19,24 +17,20 @@ abbrev pub falling_powers : {E : Type 0} → FieldOps E → E → ℕ → List E
 falling_powers l x zero = []
 falling_powers l x (suc n) = nth_power l x n ∷ falling_powers l x n
 
--- the columns of a table
-pub record AreTableColumns {F : Type 0} (k : FieldOps F) (table : PeriodicLdeTable F)
-    (made : List (List F)) : Type 0 where
-  pub count : length made ≡ width_of table
-  pub heights : All (λ column. length column ≡ height_of table) made
-  pub entries : (i c : ℕ) → i < height_of table → c < width_of table →
-      entry_at table i c ≡ Some (entry k (slice_index_or made c []) i)
+module _ {F : Type 0} (k : FieldOps F) (gen : ℕ → Coordinates F) (n log_chunks : ℕ) where
+  -- the values at the points of the domain of 2^(n + log_chunks) points of a column that repeats
+  -- over 2^n rows, as far as they differ
+  pub record IsPeriodicColumn (column made : List F) : Type 0 where
+    pub positive : 0 < length made
+    pub values : (i : ℕ) (s : Coordinates F) →
+        slice_get (natural_order k gen (n + log_chunks) (gen (n + log_chunks + 1))) i ≡ Some s →
+        IsPeriodicValue k gen k (λ x. x) n column s (entry k made (i % length made))
 
--- for each column that repeats over 2^n rows the values at the points of the domain of
--- 2^(n + log_chunks) points, as far as they differ
-pub record ArePeriodicColumns {F : Type 0} (k : FieldOps F) (gen : ℕ → Coordinates F)
-    (n log_chunks : ℕ) (columns made : List (List F)) : Type 0 where
-  pub count : length made ≡ length columns
-  pub positive : All (λ column. 0 < length column) made
-  pub values : (i c : ℕ) (s : Coordinates F) →
-      slice_get (natural_order k gen (n + log_chunks) (gen (n + log_chunks + 1))) i ≡ Some s →
-      c < length columns → IsPeriodicValue k gen k (λ x. x) n (slice_index_or columns c []) s
-      (entry k (slice_index_or made c []) (i % length (slice_index_or made c [])))
+  -- so of each column
+  pub record ArePeriodicColumns (columns made : List (List F)) : Type 0 where
+    pub count : length made ≡ length columns
+    pub each : (c : ℕ) → c < length made →
+        IsPeriodicColumn (slice_index_or columns c []) (slice_index_or made c [])
 
 module _ {F : Type 0} (k : FieldOps F) where
   -- what constraints read at place i, where the next row is `step` rows on, and the first row comes

@@ -4,55 +4,66 @@ ghost use Rattle.std.specs.Prelude.{vec_len};
 ghost use Rattle.circle_commit.specs.Matrix.{IsPowerOfTwo};
 ghost use Rattle.circle_commit.specs.PeriodicLdeTable.{entry_at, height_of, width_of};
 ghost use Rattle.circle_air.specs.Values.{entry};
-ghost use Rattle.circle_quotient.specs.Terms.{ArePeriodicColumns, AreTableColumns};
+ghost use Rattle.circle_quotient.specs.Terms.{ArePeriodicColumns, IsPeriodicColumn};
 
 use circle_commit::PeriodicLdeTable;
 use circle_domain::CircleDomain;
 use circle_field::{ComplexExtendable, Field};
-use circle_plane::build_periodic_lde_table_circle;
+use circle_plane::{PeriodicError, build_periodic_lde_table_circle};
 use std::alloc::{AllocError, Global};
+use std::slice;
 
-// The entries of a column of the table.
-fn table_column<F: Field>(
+// The entries of a table's first column.
+fn first_column<F: Field>(
     alloc: Global,
     table: &PeriodicLdeTable<F>,
-    column: usize,
 ) -> Result<Vec<F>, AllocError>
-    requires column { column < width_of table.now }
+    requires column { 1 ≤ width_of table.now }
     requires nonempty { 1 ≤ height_of table.now }
     ensures height { IfOk result (λ made. length made.items ≡ height_of table.now) }
     ensures entries { IfOk result (λ made. (i : ℕ) → i < height_of table.now →
-        entry_at table.now i column ≡ Some (entry F.ops made.items i)) }
+        entry_at table.now i 0 ≡ Some (entry F.ops made.items i)) }
 {
     let mut made = Vec::with_capacity(alloc, table.height())?;
     for i in 0..table.height() {
-        made.push(table.get(i, column))?;
+        made.push(table.get(i, 0))?;
     }
     Ok(made)
 }
 
-// The columns of the table.
-fn table_columns<F: Field>(
+// The values of a column that repeats over `2^log_n` rows at the points of the standard domain of
+// `2^(log_n + log_num_chunks)` points in natural order, as far as they differ: as many as the
+// column has entries, times `2^log_num_chunks`.
+fn extended_column<F: ComplexExtendable>(
     alloc: Global,
-    table: &PeriodicLdeTable<F>,
-) -> Result<Vec<Vec<F>>, AllocError>
-    requires { 1 ≤ width_of table.now → 1 ≤ height_of table.now }
-    ensures { IfOk result (λ made.
-        AreTableColumns F.ops table.now (map (λ column. column.items) made.items)) }
+    column: &Vec<F>,
+    log_n: usize,
+    log_num_chunks: usize,
+) -> Result<Vec<F>, AllocError>
+    requires positive { 1 ≤ log_n }
+    requires in_group { log_n + log_num_chunks < F.CIRCLE_TWO_ADICITY }
+    requires power { IsPowerOfTwo (length column.now.items) }
+    requires period { length column.now.items ≤ 2 ^ log_n }
+    ensures { IfOk result (λ made. IsPeriodicColumn F.ops F.generators log_n log_num_chunks
+        column.now.items made.items) }
 {
-    let mut made = Vec::with_capacity(alloc, table.width())?;
-    for column in 0..table.width() {
-        made.push(table_column(alloc, table, column)?)?;
+    let trace_domain = CircleDomain::standard(log_n);
+    let quotient_domain = CircleDomain::standard(log_n + log_num_chunks);
+    let columns = slice::from_ref(column);
+    match build_periodic_lde_table_circle(alloc, columns, &trace_domain, &quotient_domain) {
+        Ok(table) => first_column(alloc, &table),
+        Err(PeriodicError::Memory) => Err(AllocError),
+        // The column repeats over the trace, and no table of one column is too large.
+        Err(_) => unreachable!(),
     }
-    Ok(made)
 }
 
 /// The values of columns that repeat over `2^log_n` rows at the points of the standard domain of
 /// `2^(log_n + log_num_chunks)` points in natural order, as far as they differ: for each column as
-/// many entries as the longest has, times `2^log_num_chunks`.
+/// many as it has entries, times `2^log_num_chunks`.
 ///
 /// Requires `1 <= log_n`, `log_n + log_num_chunks < CIRCLE_TWO_ADICITY`, and columns of a power of
-/// two of entries that is at most `2^log_n`. Fails where memory is refused.
+/// two of entries that is at most `2^log_n`. Fails only when out of memory.
 pub(crate) fn extended_periodic_columns<F: ComplexExtendable>(
     alloc: Global,
     columns: &[Vec<F>],
@@ -66,11 +77,9 @@ pub(crate) fn extended_periodic_columns<F: ComplexExtendable>(
     ensures { IfOk result (λ made. ArePeriodicColumns F.ops F.generators log_n log_num_chunks
         (map (λ column. column.items) columns.now) (map (λ column. column.items) made.items)) }
 {
-    let trace_domain = CircleDomain::standard(log_n);
-    let quotient_domain = CircleDomain::standard(log_n + log_num_chunks);
-    match build_periodic_lde_table_circle(alloc, columns, &trace_domain, &quotient_domain) {
-        Ok(table) => table_columns(alloc, &table),
-        // A table whose entries can't be counted fits no memory.
-        Err(_) => Err(AllocError),
+    let mut made = Vec::with_capacity(alloc, columns.len())?;
+    for column in columns {
+        made.push(extended_column(alloc, column, log_n, log_num_chunks)?)?;
     }
+    Ok(made)
 }

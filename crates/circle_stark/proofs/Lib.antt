@@ -1,6 +1,7 @@
 pub mod BasisSums
 pub mod ChunkPolynomials
 pub mod ChunkSizes
+pub mod Committable
 pub mod CommittedValues
 pub mod Fixed
 pub mod Heads

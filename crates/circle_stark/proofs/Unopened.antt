@@ -16,22 +16,15 @@ use Rattle.circle_domain.specs.Selectors.{next_from}
 use Rattle.circle_point.specs.Projective.{to_line}
 use Rattle.circle_relation.specs.Accepts.{Fields}
 use Rattle.circle_relation.specs.declared.error.ProverError.{ProverError}
-use Rattle.circle_relation.specs.declared.error.ProverError.TheVariants.{NoGrindingWitness}
-use Rattle.circle_relation.specs.declared.error.ProverError.TheVariants.{PointOnDomain, Memory}
-use Rattle.circle_relation.specs.declared.error.ProverError.TheVariants.{UnfitParameters}
-use Rattle.circle_relation.specs.declared.error.ProverError.TheVariants.{HeightTooLarge}
-use Rattle.circle_relation.specs.declared.error.ProverError.TheVariants.{HeightTooSmall, NotGenuine}
-use Rattle.circle_relation.specs.declared.error.ProverError.TheVariants.{MatrixCountMismatch}
-use Rattle.circle_relation.specs.declared.error.ProverError.TheVariants.{NoCommittedMatrices}
-use Rattle.circle_relation.specs.declared.error.ProverError.TheVariants.{PointAtInfinity}
-use Rattle.circle_relation.specs.declared.error.ProverError.TheVariants.{LastWordNotConstant}
-use Rattle.circle_relation.specs.declared.error.ProverError.TheVariants.{DomainSmallerThanTrace}
 use Rattle.circle_relation.specs.TestsInOrder.{Test, answer}
 use Rattle.circle_stark.specs.Draw.{Described}
 use Rattle.circle_stark.specs.Statement.{Statement}
-use Rattle.circle_stark.specs.Trace.{IsNoViolation, refusal_by}
-use Rattle.circle_stark.specs.Unproved.{IsTraceUnprovedFor, IsUnopenedFor, IsUnprovedFor}
+use Rattle.circle_stark.specs.Trace.{IsNoViolation, IsOpeningRefusal, IsReportedAs}
+use Rattle.circle_stark.specs.Unproved.{IsTraceUnprovedFor, IsUnopened, IsUnopenedFor}
+use Rattle.circle_stark.specs.Unproved.{IsUnprovedFor}
 use Rattle.circle_stark.specs.declared.error.StarkProverError.{StarkProverError}
+use Rattle.circle_stark.specs.declared.error.StarkProverError.TheVariants.{NoGrindingWitness}
+use Rattle.circle_stark.specs.declared.error.StarkProverError.TheVariants.{PointOnDomain}
 use Rattle.circle_stark.specs.declared.error.StarkProverError.TheVariants.{Unsatisfied}
 
 module _ {S D F E : Type 0} (k : Fields F E)
@@ -41,41 +34,36 @@ module _ {S D F E : Type 0} (k : Fields F E)
     (points : map requested_points requests
     ≡ ((zeta ∷ to_line k.extension (next_from k.extension k.embed k.gen n zeta) ∷ []) ∷ [])
     ∷ replicate count (zeta ∷ []) ∷ []) where
-  by-each : (error : ProverError) → refuses requests old new error →
-      IsUnopenedFor k refuses n count trace quotient zeta old new (refusal_by error)
-  by-each (NoGrindingWitness phase) refused = record {
-    requests = requests;
-    kept = kept;
-    points = points;
-    error = NoGrindingWitness phase;
-    refused = refused;
-    same = refl;
-  }
-  by-each PointOnDomain refused = record {
-    requests = requests;
-    kept = kept;
-    points = points;
-    error = PointOnDomain;
-    refused = refused;
-    same = refl;
-  }
-  by-each Memory refused = tt
-  by-each UnfitParameters refused = tt
-  by-each HeightTooLarge refused = tt
-  by-each HeightTooSmall refused = tt
-  by-each NotGenuine refused = tt
-  by-each MatrixCountMismatch refused = tt
-  by-each NoCommittedMatrices refused = tt
-  by-each PointAtInfinity refused = tt
-  by-each LastWordNotConstant refused = tt
-  by-each DomainSmallerThanTrace refused = tt
-
-  pub unopened-for : (e : StarkProverError) (error : ProverError) →
-      refuses requests old new error → e ≡ refusal_by error →
+  -- the scheme's refusal, as it is reported
+  pub unopened-for : (e : StarkProverError) (error : ProverError) → IsOpeningRefusal error →
+      IsReportedAs error e → refuses requests old new error →
       IsUnopenedFor k refuses n count trace quotient zeta old new e
-  unopened-for e error refused same =
-      subst (IsUnopenedFor k refuses n count trace quotient zeta old new) (sym same)
-      (by-each error refused)
+  unopened-for e error why reported refused =
+      let run : IsUnopened k refuses n count trace quotient zeta old new e = record {
+        requests = requests;
+        kept = kept;
+        points = points;
+        error = error;
+        refused = refused;
+        reported = reported;
+      } in
+      elim why [
+        | inl memory ↦
+            subst (IsUnopenedFor k refuses n count trace quotient zeta old new)
+            (sym (subst (λ f. IsReportedAs f e) memory reported)) tt
+        | inr other ↦
+            elim other [
+              | inl domain ↦
+                  let is : e ≡ PointOnDomain = subst (λ f. IsReportedAs f e) domain reported in
+                  subst (IsUnopenedFor k refuses n count trace quotient zeta old new) (sym is)
+                  (subst (IsUnopened k refuses n count trace quotient zeta old new) is run)
+              | inr witness ↦
+                  let is : e ≡ NoGrindingWitness witness.0 =
+                  subst (λ f. IsReportedAs f e) witness.1 reported in
+                  subst (IsUnopenedFor k refuses n count trace quotient zeta old new) (sym is)
+                  (subst (IsUnopened k refuses n count trace quotient zeta old new) is run)
+            ]
+      ]
 
 -- no refusal by a constraint
 pub no-violation : (e : StarkProverError) (row constraint : ℕ) → IsNoViolation e →

@@ -1,5 +1,5 @@
 -- The statement that a trace proves, and why a trace is refused before the challenger is seeded.
-use Rattle.std.specs.Prelude.{◌≡◌, ℕ, not, List, [], ◌∷◌, ◌++◌, length, Result, IfErr, Err}
+use Rattle.std.specs.Prelude.{◌≡◌, ◌⊎◌, ℕ, not, List, [], ◌∷◌, ◌++◌, length, Result, IfErr, Err}
 use Rattle.std.specs.Int.{is_power_of_two}
 use Rattle.circle_air.specs.Air.{air_of}
 use Rattle.circle_air.specs.Degrees.{IsLogOfChunks, degree_of_parts}
@@ -7,11 +7,13 @@ use Rattle.circle_air.specs.Satisfies.{IsFirstViolation}
 use Rattle.circle_air.specs.declared.check.Violation.{Violation}
 use Rattle.circle_commit.specs.RowMajorMatrix.{height_of, rows, width_of}
 use Rattle.circle_commit.specs.declared.params.FriParameters.{FriParameters}
+use Rattle.circle_commit.specs.declared.params.PowPhase.{PowPhase}
 use Rattle.circle_codewords.specs.Requests.{log_of}
 use Rattle.circle_field.specs.Field.{FieldOps}
 use Rattle.circle_prover.specs.Requesting.{is_unfit}
 use Rattle.circle_relation.specs.TestsInOrder.{Test, answer}
 use Rattle.circle_relation.specs.declared.error.ProverError.{ProverError}
+use Rattle.circle_relation.specs.declared.error.ProverError.TheVariants.{Memory as OutOfMemory}
 use Rattle.circle_relation.specs.declared.error.ProverError.TheVariants.{NoGrindingWitness as NoWitness}
 use Rattle.circle_relation.specs.declared.error.ProverError.TheVariants.{PointOnDomain as OnDomain}
 use Rattle.circle_stark.specs.Refusals.{count_test, is_too_large, is_too_small, period_test}
@@ -95,8 +97,14 @@ abbrev pub IsNoViolation : StarkProverError → Type 0
 IsNoViolation (Unsatisfied row constraint) = ⊥
 IsNoViolation _ = Unit {0}
 
--- how a refusal of the scheme's prover is returned
-abbrev pub refusal_by : ProverError → StarkProverError
-refusal_by (NoWitness phase) = NoGrindingWitness phase
-refusal_by OnDomain = PointOnDomain
-refusal_by _ = Memory
+-- why a scheme may open nothing of what it committed to: memory, a point on a domain, or no witness
+abbrev pub IsOpeningRefusal : ProverError → Type 0
+IsOpeningRefusal e =
+    (e ≡ OutOfMemory) ⊎ ((e ≡ OnDomain) ⊎ ((phase : PowPhase) × (e ≡ NoWitness phase)))
+
+-- how a prover reports the scheme's refusal to open
+abbrev pub IsReportedAs : ProverError → StarkProverError → Type 0
+IsReportedAs OutOfMemory e = e ≡ Memory
+IsReportedAs OnDomain e = e ≡ PointOnDomain
+IsReportedAs (NoWitness phase) e = e ≡ NoGrindingWitness phase
+IsReportedAs _ e = ⊥

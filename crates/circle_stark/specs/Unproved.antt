@@ -18,7 +18,7 @@ use Rattle.circle_stark.specs.Draw.{AreDrawn, Described}
 use Rattle.circle_stark.specs.Honest.{IsQuotientCommitted, IsTraceCommitted}
 use Rattle.circle_stark.specs.Schemes.{Schemes, described}
 use Rattle.circle_stark.specs.Statement.{Statement}
-use Rattle.circle_stark.specs.Trace.{refusal_by}
+use Rattle.circle_stark.specs.Trace.{IsReportedAs}
 use Rattle.circle_stark.specs.declared.error.StarkProverError.{StarkProverError}
 use Rattle.circle_stark.specs.declared.error.StarkProverError.TheVariants.{Memory, UnfitPoint}
 use Rattle.circle_stark.specs.declared.error.StarkProverError.TheVariants.{NoGrindingWitness}
@@ -50,7 +50,7 @@ module _ {S D F E : Type 0} (k : Fields F E)
         ∷ replicate count (zeta ∷ []) ∷ []
     pub error : ProverError
     pub refused : refuses requests old new error
-    pub same : e ≡ refusal_by error
+    pub reported : IsReportedAs error e
 
   -- why nothing is opened at the drawn point zeta
   abbrev pub IsUnopenedFor : E → S → S → StarkProverError → Type 0

@@ -1,6 +1,7 @@
 //! The commitments of a prover: to the rows of a trace, and to its quotient in chunks.
 ghost use Rattle.std.specs.Prelude.{◌≡◌, ◌+◌, ◌^◌, ◌<◌, ◌≤◌, IfErr, IfOk, length};
 ghost use Rattle.circle_commit.specs.RowMajorMatrix.{height_of, width_of};
+ghost use Rattle.circle_relation.specs.declared.error.ProverError.TheVariants.{Memory as ProverMemory};
 ghost use Rattle.circle_stark.specs.Honest.{AreChunksCommitted, ContinuesTrace, IsTraceKept};
 ghost use Rattle.circle_stark.specs.OfProvable.{CommitsTo, CommitsToQuotient, IsKept};
 ghost use Rattle.circle_stark.specs.Statement.{statement_of};
@@ -14,6 +15,7 @@ use circle_challenger::{CanObserve, CanSample, GrindingChallenger};
 use circle_commit::{Mmcs, RowMajorMatrix};
 use circle_domain::CircleDomain;
 use circle_field::{ComplexExtendable, ElementBytes, ExtensionField};
+use circle_prover::ProverError;
 use circle_quotient::chunks::quotient_chunks;
 use circle_quotient::quotient::quotient_values;
 use circle_quotient::trace::ExtendedTrace;
@@ -25,6 +27,17 @@ pub(crate) type Committed<Val, InputMmcs> = (
     <InputMmcs as Mmcs<Val>>::Commitment,
     <InputMmcs as Mmcs<Val>>::ProverData,
 );
+
+// The refusal of a scheme that refuses nothing: it is out of memory.
+fn out_of_memory(error: ProverError) -> StarkProverError
+    requires { error ≡ ProverMemory }
+    ensures { result ≡ Memory }
+{
+    match error {
+        ProverError::Memory => StarkProverError::Memory,
+        _ => unreachable!(),
+    }
+}
 
 /// Commits to the rows of a statement's trace, as values on the standard domain of as many points.
 pub(crate) fn commit_trace<Val, EF, InputMmcs, FriMmcs, C>(
@@ -49,8 +62,7 @@ where
     let batch = single(alloc, (domain, rows))?;
     match provable.pcs.commit(alloc, batch) {
         Ok(committed) => Ok(committed),
-        // Of a trace that was validated the scheme refuses nothing but memory.
-        Err(_) => Err(StarkProverError::Memory),
+        Err(error) => Err(out_of_memory(error)),
     }
 }
 
@@ -66,7 +78,7 @@ fn extended_rows<Val: ComplexExtendable, InputMmcs: Mmcs<Val>, FriMmcs>(
         statement.now.log_n (statement_of statement.now).parts.width
         (InputMmcs.matrices trace.now) }
     requires larger { statement.now.log_n ≤ log_size }
-    requires positive { 1 ≤ statement.now.log_n }
+    requires foldable { pcs.now.fri_params.log_final_poly_len + 2 ≤ statement.now.log_n }
     requires extended { statement.now.log_n + pcs.now.fri_params.log_blowup
         < Val.CIRCLE_TWO_ADICITY }
     requires in_group { log_size + 1 ≤ Val.CIRCLE_TWO_ADICITY }
@@ -80,8 +92,7 @@ fn extended_rows<Val: ComplexExtendable, InputMmcs: Mmcs<Val>, FriMmcs>(
 {
     match pcs.get_evaluations_on_domain(alloc, trace, 0, CircleDomain::standard(log_size)) {
         Ok(rows) => Ok(rows),
-        // Of a trace that was validated the scheme refuses nothing but memory.
-        Err(_) => Err(StarkProverError::Memory),
+        Err(error) => Err(out_of_memory(error)),
     }
 }
 
@@ -97,7 +108,8 @@ where
     Val: ComplexExtendable,
     EF: ExtensionField<Val>,
     InputMmcs: Mmcs<Val>,
-    requires positive { 1 ≤ log_n }
+    requires foldable { pcs.now.fri_params.log_final_poly_len + 2 ≤ log_n }
+    requires extended { log_n + pcs.now.fri_params.log_blowup < Val.CIRCLE_TWO_ADICITY }
     requires in_group { log_n + log_chunks < Val.CIRCLE_TWO_ADICITY }
     requires count { length values.items ≡ 2 ^ (log_n + log_chunks) }
     ensures refused { IfErr result (λ e. e ≡ Memory) }
@@ -108,8 +120,7 @@ where
     let chunks = quotient_chunks::<Val, EF>(alloc, log_n, log_chunks, values)?;
     match pcs.commit(alloc, chunks) {
         Ok(committed) => Ok(committed),
-        // Of a trace that was validated the scheme refuses nothing but memory.
-        Err(_) => Err(StarkProverError::Memory),
+        Err(error) => Err(out_of_memory(error)),
     }
 }
 

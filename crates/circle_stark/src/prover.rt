@@ -1,16 +1,16 @@
 //! The prover.
-ghost use Rattle.std.specs.Prelude.{◌≡◌, ◌≤◌, ◌^◌, IfErr, IfOk, OnOk, length};
+ghost use Rattle.std.specs.Prelude.{◌≡◌, ◌≤◌, ◌^◌, IfErr, IfOk, OnOk, false, length};
 ghost use Rattle.circle_air.specs.Satisfies.{Satisfies};
 ghost use Rattle.circle_commit.specs.Honest.{AreTrueValues};
-ghost use Rattle.circle_commit.specs.Mmcs.{HaveHeightsOfPowers};
 ghost use Rattle.circle_commit.specs.Pcs.{openings};
 ghost use Rattle.circle_commit.specs.RowMajorMatrix.{height_of, rows as rows_of, width_of};
+ghost use Rattle.circle_prover.specs.Requesting.{is_unfit};
 ghost use Rattle.circle_stark.specs.OfProvable.{Accepts, AreOpenedAt, CanBeOpened, CommitsTo};
 ghost use Rattle.circle_stark.specs.OfProvable.{CommitsToQuotient, Draws, HasNext, IsUnopened};
 ghost use Rattle.circle_stark.specs.OfProvable.{IsUnopenedAt, Opens, stated_by};
 ghost use Rattle.circle_stark.specs.Statement.{values_of};
-ghost use Rattle.circle_stark.specs.Trace.{IsFirstTraceRefusal, NamesViolation, refusal_by};
-ghost use Rattle.circle_stark.specs.Trace.{stated, statement_by};
+ghost use Rattle.circle_stark.specs.Trace.{IsFirstTraceRefusal, IsOpeningRefusal};
+ghost use Rattle.circle_stark.specs.Trace.{IsReportedAs, NamesViolation, stated, statement_by};
 ghost use Rattle.circle_stark.specs.declared.error.StarkProverError.TheVariants.{Memory};
 
 use crate::claims::OpenedPoints;
@@ -91,14 +91,16 @@ where
     })
 }
 
-// The refusal by which that of the scheme's opening is returned.
-fn refusal_by(error: ProverError) -> StarkProverError
-    ensures { result ≡ refusal_by error }
+// How a prover reports why the scheme opens nothing of what it committed to.
+fn refusal_of_opening(error: ProverError) -> StarkProverError
+    requires { IsOpeningRefusal error }
+    ensures { IsReportedAs error result }
 {
     match error {
         ProverError::NoGrindingWitness { phase } => StarkProverError::NoGrindingWitness { phase },
         ProverError::PointOnDomain => StarkProverError::PointOnDomain,
-        _ => StarkProverError::Memory,
+        ProverError::Memory => StarkProverError::Memory,
+        _ => unreachable!(),
     }
 }
 
@@ -150,9 +152,11 @@ where
         + GrindingChallenger<Val>
         + CanObserve<InputMmcs::Commitment>
         + CanObserve<FriMmcs::Commitment>,
-    requires trace { HaveHeightsOfPowers (InputMmcs.matrices run.now.trace_data) }
-    requires quotient { HaveHeightsOfPowers (InputMmcs.matrices run.now.quotient_data) }
-    requires one { length (InputMmcs.matrices run.now.trace_data) ≡ 1 }
+    requires supported { is_unfit provable.now.pcs.now.fri_params ≡ false }
+    requires trace { (x : _) ×
+        CommitsTo provable.now x run.now.trace_commitment run.now.trace_data }
+    requires quotient { CommitsToQuotient provable.now run.now.trace_data run.now.drawn.alpha
+        run.now.quotient_commitment run.now.quotient_data }
     ensures fit { OnOk result (CanBeOpened provable.now run.now.drawn.zeta) }
     ensures unopened { IfErr result (IsUnopenedAt provable.now run.now.trace_data
         run.now.quotient_data run.now.drawn.zeta challenger.old challenger.new) }
@@ -174,7 +178,7 @@ where
     let requests = requests_at(alloc, kept, num_chunks, OpenedPoints { zeta, next })?;
     let (values, proof) = match open_requests(alloc, provable.pcs, requests, challenger) {
         Ok(opened) => opened,
-        Err(error) => return Err(refusal_by(error)),
+        Err(error) => return Err(refusal_of_opening(error)),
     };
     Ok((values_of_openings(alloc, values)?, proof))
 }
@@ -197,6 +201,7 @@ where
         + CanObserve<FriMmcs::Commitment>,
     requires height { height_of rows ≡ 2 ^ provable.now.statement.log_n }
     requires width { width_of rows ≡ (stated_by provable.now).parts.width }
+    requires supported { is_unfit provable.now.pcs.now.fri_params ≡ false }
     requires satisfied { Satisfies Val.ops (stated_by provable.now).parts (rows_of rows)
         (stated_by provable.now).public_values }
     ensures reason { IfErr result (IsUnopened provable.now rows challenger.old challenger.new) }

@@ -1,5 +1,5 @@
 //! The trace of which a proof is made, and what is refused of it before the challenger is seeded.
-ghost use Rattle.std.specs.Prelude.{◌≡◌, ◌^◌, ◌≤◌, ℕ, IfErr, IfOk};
+ghost use Rattle.std.specs.Prelude.{◌≡◌, ◌^◌, ◌≤◌, ℕ, IfErr, IfOk, false};
 ghost use Rattle.circle_air.specs.Air.{air_of};
 ghost use Rattle.circle_air.specs.Degrees.{IsLogOfChunks, degree_of_parts};
 ghost use Rattle.circle_commit.specs.RowMajorMatrix.{height_of, width_of};
@@ -113,6 +113,7 @@ pub(crate) fn validated_sizes<F: ComplexExtendable, M>(
     ensures log_n { IfOk result (λ sizes. sizes.log_n ≡ (stated trace.now).log_n) }
     ensures provable { IfOk result (λ sizes. IsProvable F.CIRCLE_TWO_ADICITY params.now
         (stated trace.now) sizes.log_chunks) }
+    ensures supported { IfOk result (λ _. is_unfit params.now ≡ false) }
     ensures width { IfOk result (λ _. width_of trace.now.rows ≡ (stated trace.now).parts.width) }
 {
     validate_shape(trace)?;

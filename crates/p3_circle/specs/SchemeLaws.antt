@@ -1,8 +1,9 @@
 -- The laws of the traits of schemes that rest on the mathematics of an opening, of the scheme.
-use Rattle.std.specs.Prelude.{◌≡◌, ◌↔◌, ℕ, ◌^◌, ◌<◌, ◌≤◌, Bool, true, IsTrue, List, [], ◌∷◌, length}
-use Rattle.std.specs.Prelude.{zip, All, slice_index_or}
+use Rattle.std.specs.Prelude.{◌≡◌, ◌↔◌, ◌⊎◌, ℕ, ◌^◌, ◌<◌, ◌≤◌, Bool, true, IsTrue, List, []}
+use Rattle.std.specs.Prelude.{◌∷◌, length, zip, All, Ok, slice_index_or}
 use Rattle.std.specs.List.{AllByRecursion, AllZip}
 use Rattle.std.proofs.Common.{refl, sym, subst, arith, inl, inr}
+use Rattle.std.proofs.lemmas.Bool.{cases_Bool}
 use Rattle.std.proofs.lemmas.List.Elements.{recursion_from_All}
 use Rattle.circle_completeness.proofs.Accepted.{accepts-openings}
 use Rattle.circle_completeness.proofs.ReadRows.{low-read}
@@ -18,10 +19,14 @@ use Rattle.circle_domain.specs.declared.domain.CircleDomain.{CircleDomain}
 use Rattle.circle_field.specs.Circle.{AreGenerators, Coordinates}
 use Rattle.circle_field.specs.Field.{FieldLaws, FieldOps, IsEmbedding}
 use Rattle.circle_field.specs.declared.field.Operations.{Ghosts}
-use Rattle.circle_prover.specs.Opening.{IsFailure}
+use Rattle.circle_prover.specs.Opening.{IsFailure, IsStuckOn}
 use Rattle.circle_codewords.specs.Requests.{AreAnswers, AreValuesOf, IsFit, IsOpenable}
 use Rattle.circle_relation.specs.declared.error.ProverError.{ProverError}
+use Rattle.circle_commit.specs.declared.params.PowPhase.{PowPhase}
+use Rattle.circle_relation.specs.TestsInOrder.{answer}
 use Rattle.circle_relation.specs.declared.error.ProverError.TheVariants.{Memory}
+use Rattle.circle_relation.specs.declared.error.ProverError.TheVariants.{NoGrindingWitness}
+use Rattle.circle_relation.specs.declared.error.ProverError.TheVariants.{PointOnDomain}
 use Rattle.circle_commit.specs.Honest.{AreAnsweredBy, AreHonest, HaveValues, requested_points}
 use Rattle.circle_relation.specs.Accepts.{Authenticates, Fields}
 use Rattle.circle_relation.specs.RunOf.{proof_of}
@@ -29,14 +34,15 @@ use Rattle.circle_relation.specs.StatementOf.{batch_claims}
 use Rattle.circle_relation.specs.declared.proof.CirclePcsProof.{CirclePcsProof}
 use Rattle.p3_circle.specs.Committing.{commit_tests}
 use Rattle.p3_circle.specs.Honest.{AreValuesOfBatch, FindsWitnesses, IsHonestBatch}
-use Rattle.circle_prover.specs.Requesting.{opening_tests}
+use Rattle.circle_prover.specs.Requesting.{is_unfit, meets_domains, opening_tests}
 use Rattle.p3_circle.specs.Scheme.{IsCommitted, IsFirstFrom, IsFirstOf, IsGiven, says_prover_memory}
 use Rattle.p3_circle.specs.SchemeFacts.{extended-powers}
 use Rattle.p3_circle.specs.Verdict.{IsAccepted}
 use Rattle.p3_circle.specs.SchemeLaws.HonestOpenings.{all-valued, answered-kept, are-claimed}
 use Rattle.p3_circle.specs.SchemeLaws.HonestOpenings.{are-pointed, commits, kept-low, points_in}
-use Rattle.p3_circle.specs.SchemeLaws.HonestTests.{batch-passes, requests-pass, unrefused}
-use Rattle.p3_circle.specs.SchemeLaws.HonestTests.{unrefused-from}
+use Rattle.p3_circle.specs.SchemeLaws.HonestTests.{IsKeptToAsk, asked-on-domain, asked-pass}
+use Rattle.p3_circle.specs.SchemeLaws.HonestTests.{honest-passes, refused-from, requests-pass}
+use Rattle.p3_circle.specs.SchemeLaws.HonestTests.{unrefused, unrefused-from}
 use Rattle.circle_prover.proofs.Unrefused.{are-fit, are-requests}
 pub mod HonestTests
 pub mod HonestOpenings
@@ -123,7 +129,7 @@ pub honest-commit : {F E M : Type 0} {g : Ghosts F} {gen : ℕ → Coordinates F
 honest-commit {gen = gen} {l} {embed} f eq eq_law two p batch points err honest refused =
     memory-is err
     (unrefused (commit_tests two p eq f batch) (λ x. x ≡ Memory) err
-    (batch-passes f gen l embed eq eq_law two p batch points honest) refused)
+    (honest-passes f eq eq_law two p batch points honest) refused)
 
 module _ {F E M : Type 0} {g : Ghosts F} (k : Fields F E) (base : FieldLaws k.field)
     (laws : FieldLaws k.extension) (e : IsEmbedding k.field k.extension k.embed)
@@ -137,40 +143,86 @@ module _ {F E M : Type 0} {g : Ghosts F} (k : Fields F E) (base : FieldLaws k.fi
       abbrev CommitsTo : List (CircleDomain F g × RowMajorMatrix F) → IC → D → Type 0
       CommitsTo = commits k k.two_adicity p kept Commits
 
-      -- honest requests are opened, where memory suffices and witnesses are found
-      pub honest-open : {C S WC : Type 0} (r : RunMoves C S F E WC)
+      module _ {C S WC : Type 0} (r : RunMoves C S F E WC)
           (WordCommits : List (RowMajorMatrix E) → WC → Type 0)
-          (requests : List (OpeningRequest D E)) (s t : S) (err : ProverError) →
-          AreHonest CommitsTo (IsHonestBatch k.field k.gen k.extension k.embed k.two_adicity p)
-          requests →
-          FindsWitnesses k r p WordCommits kept requests s →
-          IsFirstFrom (opening_tests kept requests k.two_adicity p k same)
-          (IsFailure k r p WordCommits kept requests s) s t err
-          → IsTrue (says_prover_memory err)
-      honest-open r WordCommits requests s t err honest finds refused =
-          let tests = opening_tests kept requests k.two_adicity p k same in
-          let ok = requests-pass k same law k.two_adicity small p kept Commits requests honest.0
-          honest.1 in
-          let failure = unrefused-from tests (IsFailure k r p WordCommits kept requests s) s t err
-          ok refused in
-          let powers : All (λ r. HaveHeightsOfPowers (kept r.prover_data.now)) requests = λ i d lt.
-          let h = honest.1 i d lt in extended-powers k.field k.gen p.log_blowup Commits h.batch
-          (kept (slice_index_or requests i d).prover_data.now) h.committed.extended in
-          let asked = are-requests kept requests k.two_adicity p k same law base laws e gens powers
-          ok in
-          let low = kept-low k k.two_adicity p kept Commits requests
-          (λ i d lt. let h = honest.1 i d lt in (h.batch, h.commitment, h.committed)) asked in
-          let never = never-too-high k base laws e eq eq_law same law gens kept p requests
-          (are-fit kept requests k.two_adicity p k same ok) asked r WordCommits low s err
-          failure in
-          memory-is err (elim failure [
-            | inl memory ↦ memory
-            | inr rest ↦
-                elim rest.2 [
-                  | inl high ↦ absurd (never high.0)
-                  | inr stuck ↦ absurd (finds.never_stuck rest.0 err rest.1 stuck)
-                ]
-          ])
+          (requests : List (OpeningRequest D E)) (s t : S) (err : ProverError) where
+        -- requests for what was committed to that pass the tests are refused only for want of
+        -- memory, or where no witness passes
+        failed-by : All (λ r. (batch : List (CircleDomain F g × RowMajorMatrix F))
+            × (commitment : IC) × CommitsTo batch commitment r.prover_data.now) requests →
+            answer (opening_tests kept requests k.two_adicity p k same) (tt {0}) ≡ Ok (tt {0}) →
+            IsFailure k r p WordCommits kept requests s err →
+            (err ≡ Memory) ⊎ ((values : Openings E)
+            × AllZip (AreAnswers kept k p.log_blowup) requests values
+            × IsStuckOn k r p WordCommits kept requests values s err)
+        failed-by known ok failure =
+            let powers : All (λ r. HaveHeightsOfPowers (kept r.prover_data.now)) requests =
+            λ i d lt.
+            let (batch, commitment, told) = known i d lt in
+            extended-powers k.field k.gen p.log_blowup Commits batch
+            (kept (slice_index_or requests i d).prover_data.now) told.extended in
+            let asked =
+            are-requests kept requests k.two_adicity p k same law base laws e gens powers ok in
+            let low = kept-low k k.two_adicity p kept Commits requests known asked in
+            let never = never-too-high k base laws e eq eq_law same law gens kept p requests
+            (are-fit kept requests k.two_adicity p k same ok) asked r WordCommits low s err
+            failure in
+            elim failure [
+              | inl memory ↦ inl memory
+              | inr rest ↦
+                  elim rest.2 [
+                    | inl high ↦ absurd (never high.0)
+                    | inr stuck ↦ inr (rest.0, rest.1, stuck)
+                  ]
+            ]
+
+        -- honest requests are opened, where memory suffices and witnesses are found
+        pub honest-open :
+            AreHonest CommitsTo (IsHonestBatch k.field k.gen k.extension k.embed k.two_adicity p)
+            requests →
+            FindsWitnesses k r p WordCommits kept requests s →
+            IsFirstFrom (opening_tests kept requests k.two_adicity p k same)
+            (IsFailure k r p WordCommits kept requests s) s t err
+            → IsTrue (says_prover_memory err)
+        honest-open honest finds refused =
+            let tests = opening_tests kept requests k.two_adicity p k same in
+            let ok = requests-pass k same law k.two_adicity small p kept Commits requests honest.0
+            honest.1 in
+            let failure = unrefused-from tests (IsFailure k r p WordCommits kept requests s) s t err
+            ok refused in
+            let known = λ i d lt.
+            let h = honest.1 i d lt in (h.batch, h.commitment, h.committed) in
+            memory-is err (elim (failed-by known ok failure) [
+              | inl memory ↦ memory
+              | inr stuck ↦ absurd (finds.never_stuck stuck.0 err stuck.1 stuck.2)
+            ])
+
+        -- requests at any finite points for what was committed to are refused only for want of
+        -- memory, for a point on a domain, or where no witness passes
+        pub asked-open : 1 ≤ length requests →
+            All (IsKeptToAsk g k k.two_adicity p kept Commits) requests → is_unfit p ≡ false →
+            IsFirstFrom (opening_tests kept requests k.two_adicity p k same)
+            (IsFailure k r p WordCommits kept requests s) s t err →
+            (err ≡ Memory) ⊎ ((err ≡ PointOnDomain)
+            ⊎ ((phase : PowPhase) × (err ≡ NoGrindingWitness phase)))
+        asked-open some known fit refused =
+            let tests = opening_tests kept requests k.two_adicity p k same in
+            let Fails = IsFailure k r p WordCommits kept requests s in
+            elim (cases_Bool (meets_domains kept requests k same)) [
+              | inl on ↦
+                  inr (inl (refused-from tests Fails s t err PointOnDomain
+                  (asked-on-domain k same law k.two_adicity small p kept Commits requests some known
+                  fit on) refused))
+              | inr off ↦
+                  let ok = asked-pass k same law k.two_adicity small p kept Commits requests some
+                  known fit off in
+                  elim (failed-by
+                  (λ i d lt. let h = known i d lt in (h.batch, h.commitment, h.committed)) ok
+                  (unrefused-from tests Fails s t err ok refused)) [
+                    | inl memory ↦ inl memory
+                    | inr stuck ↦ inr (inr (stuck.2.0, stuck.2.1))
+                  ]
+            ]
 
       -- claims of what is returned are accepted from the same state
       pub opening-accepted : {C S I IP ID IE WC WD WP WE : Type 0} (r : RunMoves C S F E WC)
