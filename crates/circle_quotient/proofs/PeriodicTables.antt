@@ -1,5 +1,5 @@
 -- The table of a periodic column.
-use Rattle.std.specs.Prelude.{◌≡◌, ℕ, ◌+◌, ◌*◌, ◌%◌, ◌^◌, ◌<◌, ◌≤◌, List, [], ◌∷◌, length}
+use Rattle.std.specs.Prelude.{◌≡◌, ℕ, ◌+◌, ◌-◌, ◌*◌, ◌%◌, ◌^◌, ◌<◌, ◌≤◌, List, [], ◌∷◌, length}
 use Rattle.std.specs.Prelude.{Some, slice_get, slice_index_or}
 use Rattle.std.proofs.Common.{zero, suc, refl, sym, ◌∙◌, ap, subst, arith, pow-add}
 use Rattle.std.proofs.Math.Nat.{mod-eq_of_lt, mod-lt, mul-le-mul_right}
@@ -14,7 +14,7 @@ use Rattle.circle_commit.specs.declared.periodic.PeriodicLdeTable.{PeriodicLdeTa
 use Rattle.circle_domain.specs.Domain.{log_size, shift_of}
 use Rattle.circle_domain.specs.Periodic.{IsPeriodicValue}
 use Rattle.circle_domain.specs.declared.domain.CircleDomain.{CircleDomain}
-use Rattle.circle_plane.specs.PeriodicColumns.{IsPeriodicTable, IsRefusal, IsTableOn}
+use Rattle.circle_plane.specs.PeriodicColumns.{IsPeriodicTable, IsRefusal, IsRefusedOn, IsTableOn}
 use Rattle.circle_plane.specs.declared.periodic.PeriodicError.{PeriodicError}
 use Rattle.circle_plane.specs.declared.periodic.PeriodicError.TheVariants.{Empty, HeightTooLarge}
 use Rattle.circle_plane.specs.declared.periodic.PeriodicError.TheVariants.{LongerThanTrace, Memory}
@@ -75,7 +75,7 @@ module _ {F : Type 0} {k : FieldOps F} {gen : ℕ → Coordinates F} (two_adicit
   }
 
 -- the table of a column that repeats over 2^n rows is refused only for want of memory
-pub only-memory : (n kk long : ℕ) → n + kk ≤ 62 → IsPowerOfTwo long → long ≤ 2 ^ n →
+only-memory : (n kk long : ℕ) → n + kk ≤ 62 → IsPowerOfTwo long → long ≤ 2 ^ n →
     (e : PeriodicError) → IsRefusal (2 ^ n) (long ∷ []) kk e → e ≡ Memory
 only-memory n kk long small power most Empty (zero, below, before, fault) =
     let positive = pow_pos power.0 in
@@ -99,3 +99,15 @@ only-memory n kk long small power most HeightTooLarge (fit, large) =
     subst (λ h. 2 ^ 64 ≤ h * 2 ^ kk * 1) alone large in
     absurd (omega (arith, entries, whole, bound, product))
 only-memory n kk long small power most Memory refused = refl
+
+-- so on domains of these sizes
+pub column-refused : {F : Type 0} {g : _} (trace lde : CircleDomain F g) (n kk : ℕ) →
+    log_size trace ≡ n → log_size lde ≡ n + kk → n + kk ≤ 62 → (columns : List (List F))
+    (column : List F) → columns ≡ column ∷ [] → IsPowerOfTwo (length column) →
+    length column ≤ 2 ^ n → (e : PeriodicError) → IsRefusedOn trace lde columns e → e ≡ Memory
+column-refused trace lde n kk small large fits columns column same power most e refused =
+    let blowup : log_size lde - log_size trace ≡ kk = omega (arith, small, large) in
+    only-memory n kk (length column) fits power most e
+    (subst (λ i. IsRefusal (2 ^ i) (length column ∷ []) kk e) small
+    (subst (λ i. IsRefusal (2 ^ log_size trace) (length column ∷ []) i e) blowup
+    (subst (λ cs. IsRefusedOn trace lde cs e) same refused)))

@@ -63,7 +63,7 @@ terms-fit {k = k} {l = l} {gen = gen} n kk positive p alpha t are =
       periodic = sym (length-map t.periodic.items (λ column. column.items))
           ∙ are.periodic.count;
       periods = λ c d lt.
-          subst (λ (column : List F). 0 < length column)
+          subst (λ column. 0 < length column)
           (get_or_default (columns_of t.periodic.items) c [] d lt)
           (are.periodic.each c lt).positive;
       weights = ap length are.weights ∙ length-falling_powers l alpha (length p.constraints);

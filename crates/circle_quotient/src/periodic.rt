@@ -3,6 +3,7 @@ ghost use Rattle.std.specs.Prelude.{◌≡◌, ℕ, ◌+◌, ◌≤◌, ◌<◌,
 ghost use Rattle.std.specs.Prelude.{vec_len};
 ghost use Rattle.circle_commit.specs.Matrix.{IsPowerOfTwo};
 ghost use Rattle.circle_commit.specs.PeriodicLdeTable.{entry_at, height_of, width_of};
+ghost use Rattle.circle_plane.specs.declared.periodic.PeriodicError.TheVariants.{Memory};
 ghost use Rattle.circle_air.specs.Values.{entry};
 ghost use Rattle.circle_quotient.specs.Terms.{ArePeriodicColumns, IsPeriodicColumn};
 
@@ -14,10 +15,7 @@ use std::alloc::{AllocError, Global};
 use std::slice;
 
 // The entries of a table's first column.
-fn first_column<F: Field>(
-    alloc: Global,
-    table: &PeriodicLdeTable<F>,
-) -> Result<Vec<F>, AllocError>
+fn first_column<F: Field>(alloc: Global, table: &PeriodicLdeTable<F>) -> Result<Vec<F>, AllocError>
     requires column { 1 ≤ width_of table.now }
     requires nonempty { 1 ≤ height_of table.now }
     ensures height { IfOk result (λ made. length made.items ≡ height_of table.now) }
@@ -29,6 +27,16 @@ fn first_column<F: Field>(
         made.push(table.get(i, 0))?;
     }
     Ok(made)
+}
+
+// The error of a table that is refused only when out of memory.
+fn out_of_memory(error: PeriodicError) -> AllocError
+    requires { error ≡ Memory }
+{
+    match error {
+        PeriodicError::Memory => AllocError,
+        _ => unreachable!(),
+    }
 }
 
 // The values of a column that repeats over `2^log_n` rows at the points of the standard domain of
@@ -52,9 +60,8 @@ fn extended_column<F: ComplexExtendable>(
     let columns = slice::from_ref(column);
     match build_periodic_lde_table_circle(alloc, columns, &trace_domain, &quotient_domain) {
         Ok(table) => first_column(alloc, &table),
-        Err(PeriodicError::Memory) => Err(AllocError),
         // The column repeats over the trace, and no table of one column is too large.
-        Err(_) => unreachable!(),
+        Err(error) => Err(out_of_memory(error)),
     }
 }
 
