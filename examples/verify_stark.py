@@ -111,9 +111,9 @@ def draw(challenger, statement, proof, trace):
     trace("stark", seed_bytes=len(seed), seed=seed)
     absorb("seed", seed)
     absorb("public_values", public)
-    absorb("trace_commitment", [proof["trace_commitment"]])
+    absorb("trace", [proof["trace_commitment"]])
     alpha = drawn("alpha")
-    absorb("quotient_commitment", [proof["quotient_commitment"]])
+    absorb("quotient", [proof["quotient_commitment"]])
     return alpha, drawn("zeta")
 
 # 3. The opened point
@@ -169,8 +169,9 @@ def composition(statement, values, alpha, q, trace):
               "public": [lift(x) for x in public]}
     nodes, at = node_values(air, window), selectors(n, q)
     trace("stark", **{f"is_{place}_row_at_zeta": at[place] for place in ("first", "last")},
-          is_transition_at_zeta=at["transition"], periodic_at_zeta=window["periodic"],
-          constraints_at_zeta=[nodes[c["node"]] for c in air["constraints"]])
+          is_transition_at_zeta=at["transition"])
+    trace("stark", **{f"periodic {i}": value for i, value in enumerate(window["periodic"])},
+          **{f"constraint {j}": nodes[c["node"]] for j, c in enumerate(air["constraints"])})
     return functools.reduce(lambda total, c: alpha * total + at[c["when"]] * nodes[c["node"]],
                             air["constraints"], Cubic(0))
 
@@ -186,7 +187,8 @@ def recomposition(n, k, chunks, q, trace):
         basis = [Cubic(*(i == j for j in range(3))) for i in range(3)]
         values.append(sum((b * c for b, c in zip(basis, chunk)), Cubic(0)))
         total = total + functools.reduce(Cubic.__mul__, factors, Cubic(1)) * values[-1]
-    trace("stark", vanishing_of_parts=at, chunks_at_zeta=values, recomposition_at_zeta=total)
+    trace("stark", vanishing_of_parts=at, **{f"chunk {j}": value for j, value in enumerate(values)},
+          recomposition_at_zeta=total)
     return total
 
 # 6. The tests
@@ -218,7 +220,8 @@ def tests(statement, parameters, proof, trace, challenger):
     yield from air_refusals(air, degrees)
     k = log_chunks(air, degrees)
     yield from tests_before(statement, parameters, k, values)
-    trace("stark", k=k, text_bytes=len(air_text(air)), digest=digest(air))
+    text = air_text(air)
+    trace("stark", k=k, air_text_bytes=len(text), air_text=text, air_digest=digest(air))
     alpha, zeta = draw(challenger, statement, proof, trace)
     following = next_coordinate(n, zeta)
     yield "UnfitPoint", following is None
