@@ -388,16 +388,18 @@ def answer(load, trace=lambda text, **values: None):
             return {"refused": name}, 1
     return {"verified": True}, 0
 
+def shown(value): return value.hex() if type(value) is bytes else value
+def write_trace(text, **values):
+    for line in [f"{text} {name}: {shown(value)}" for name, value in values.items()] or [text]:
+        print(line, file=sys.stderr)
+
 def main(args):
     names, is_traced = [arg for arg in args if arg != "--trace"], "--trace" in args
     def load():
         expect(len(names) < 2 and not "".join(names).startswith("--"), "usage")
         with open(names[0] if names else 0, "rb") as file:
             return file.read()
-    def trace(text, **values):
-        for line in [f"{text} {name}: {value}" for name, value in values.items()] or [text]:
-            print(line, file=sys.stderr)
-    found, status = answer(load, trace) if is_traced else answer(load)
+    found, status = answer(load, write_trace) if is_traced else answer(load)
     os.write(1, json.dumps(found, separators=(",", ":")).encode() + b"\n")  # status 1 if it fails
     return status
 

@@ -2,18 +2,20 @@
 """Verifies proofs that rows of a trace satisfy constraints. Written from docs/STARK.md, in its
 order, over the verifier of openings beside it (verify.py).
 
-    python3 examples/verify_stark.py [FILE]
+    python3 examples/verify_stark.py [--trace] [FILE]
 
 reads FILE, or standard input if none is named, and writes the line that a verifier of the statement
 in the file is due to write: status 0 where it accepts, 1 where it refuses, 2 where the file can't
-be read.
+be read. With --trace it writes to standard error each value of the STARK's own steps, and between
+them the lines that verify.py writes of the scheme's.
 """
 import functools, json, os, pathlib, sys
 
 sys.path.insert(0, str(pathlib.Path(__file__).resolve().parent))
 import verify
-from verify import COUNT, DIGEST, P, PROOF, Challenger, Cubic, Run, Unreadable, add, be64, counted
-from verify import cubic, expect, from_line, gen, lift, params, parse, read, sha, u
+from verify import COUNT, DIGEST, P, PROOF, C, Challenger, Cubic, H, Run, Unreadable, add, be64
+from verify import counted, cubic, expect, fold, from_line, gen, lift, natural_place, params, parse
+from verify import read, sha, u
 
 # 1. Constraints as data
 OPERANDS = {"local": 1, "next": 1, "periodic": 1, "public": 1, "constant": 1, "add": 2, "sub": 2,
@@ -35,8 +37,8 @@ def place(value):
     expect(type(value) is str and value in PLACES, "WrongKind")
     return value
 
-AIR = {"constraints": [{"node": COUNT, "when": place}], "nodes": [node],
-       "num_public_values": COUNT, "periodic_columns": [[P]], "width": COUNT}
+AIR = {"width": COUNT, "num_public_values": COUNT, "periodic_columns": [[P]], "nodes": [node],
+       "constraints": [{"node": COUNT, "when": place}]}
 
 def node_refusals(air, degrees, name, operands):
     """The refusals of a node behind nodes of these degrees, whose own is appended."""
@@ -69,13 +71,14 @@ def listed(texts): return be64(len(texts)) + b"".join(texts)
 def node_text(name, operands):
     text = element if name == "constant" else be64
     return bytes([list(OPERANDS).index(name)]) + b"".join(map(text, operands))
-def digest(air):
+def air_text(air):
     columns = [listed([element(x) for x in column]) for column in air["periodic_columns"]]
     nodes = [node_text(*node) for node in air["nodes"]]
     constraints = [bytes([PLACES.index(c["when"])]) + be64(c["node"]) for c in air["constraints"]]
     counts = be64(4) + be64(air["width"]) + be64(air["num_public_values"])
     lists = [listed(texts) for texts in (columns, nodes, constraints)]
-    return sha(b"circle-air", bytes([1]), counts, *lists)
+    return b"".join([b"circle-air", bytes([1]), counts, *lists])
+def digest(air): return sha(air_text(air))
 
 # 2. The transcript
 MESSAGE, CHALLENGE, ALGEBRA, OPAQUE, SCALAR, FIXED = 0, 1, 0, 1, 0, 1
@@ -93,14 +96,25 @@ def seed_text(air, log_n, count):
     head = bytes([1]) + counted(b"circle-stark") + be64(len(steps)) + b"".join(steps)
     return head + be64(2) + counted(digest(air)) + counted(be64(log_n))
 
-def draw(challenger, statement, proof):
+def draw(challenger, statement, proof, trace):
     """The challenge that puts the constraints together, and the coordinate of the opened point."""
+    def absorb(what, values):
+        for value in values:
+            challenger.observe(value)
+        trace("stark", **{f"state_after_{what}": challenger.state})
+    def drawn(what):
+        value = Cubic(*[challenger.squeeze() for _ in range(3)])
+        trace("stark", **{what: value, f"state_after_{what}": challenger.state})
+        return value
     air, log_n, public = statement
-    for value in [*seed_text(air, log_n, len(public)), *public, proof["trace_commitment"]]:
-        challenger.observe(value)
-    alpha = Cubic(*[challenger.squeeze() for _ in range(3)])
-    challenger.observe(proof["quotient_commitment"])
-    return alpha, Cubic(*[challenger.squeeze() for _ in range(3)])
+    seed = seed_text(air, log_n, len(public))
+    trace("stark", seed_bytes=len(seed), seed=seed)
+    absorb("seed", seed)
+    absorb("public_values", public)
+    absorb("trace", [proof["trace_commitment"]])
+    alpha = drawn("alpha")
+    absorb("quotient", [proof["quotient_commitment"]])
+    return alpha, drawn("zeta")
 
 # 3. The opened point
 def plus(p, q):
@@ -126,36 +140,17 @@ def selectors(n, q):
     return {"every": Cubic(1), "first": first, "last": last,
             "transition": 1 - last / lift(-(2**n) * turned[1])}
 
-def basis_values(j, p):
-    """The values at p of the 2^j polynomials of the circle basis."""
-    factors = [p[1]] + [functools.reduce(lambda x, _: 2 * x * x - 1, range(k), p[0])
-                        for k in range(j - 1)]
-    values = [1]
-    for factor in factors[:j]:
-        values += [value * factor for value in values]
-    return values
-
-def solve(rows):
-    """The solution of linear equations over the field, each its coefficients and the due sum."""
-    for i in range(len(rows)):
-        pivot = next(r for r in range(i, len(rows)) if rows[r][i] % P)
-        rows[i], rows[pivot] = rows[pivot], rows[i]
-        inverse = verify.inverse(rows[i][i])
-        rows[i] = [x * inverse % P for x in rows[i]]
-        for r in range(len(rows)):
-            if r != i:
-                rows[r] = [(x - rows[r][i] * y) % P for x, y in zip(rows[r], rows[i])]
-    return [row[-1] for row in rows]
-
 def periodic_value(n, column, q):
     """The value at q of the column that repeats over 2^n rows."""
     j = len(column).bit_length() - 1
     at = functools.reduce(lambda p, _: double(p), range(n - j), q)
-    points = [gen(j + 1)]
-    for _ in column[1:]:
-        points.append(add(points[-1], gen(j)))
-    rows = [[*basis_values(j, p), value] for p, value in zip(points, column)]
-    return sum((c * b for c, b in zip(solve(rows), basis_values(j, at))), Cubic(0))
+    values = [lift(column[natural_place(j, i)]) for i in range(2**j)]
+    for m in reversed(range(1, j + 1)):
+        beta = at[1] if m == j else vanishing(j - m, at)
+        pairs = enumerate(zip(values[::2], values[1::2]))
+        values = [fold(*pair, C(j, gen(j + 1), 2 * i)[1] if m == j else H(m, gen(m + 2), 2 * i)[0],
+                       beta) for i, pair in pairs]
+    return values[0]
 
 def node_values(air, window):
     """The values of the nodes over a window, each a list of elements by the nodes that read it."""
@@ -167,26 +162,33 @@ def node_values(air, window):
                       .get(name, lambda: window[name][operands[0]])())
     return values
 
-def composition(statement, values, alpha, q):
+def composition(statement, values, alpha, q, trace):
     air, n, public = statement
     window = {"local": values["trace_local"], "next": values["trace_next"],
               "periodic": [periodic_value(n, column, q) for column in air["periodic_columns"]],
               "public": [lift(x) for x in public]}
     nodes, at = node_values(air, window), selectors(n, q)
+    trace("stark", **{f"is_{place}_row_at_zeta": at[place] for place in ("first", "last")},
+          is_transition_at_zeta=at["transition"])
+    trace("stark", **{f"periodic {i}": value for i, value in enumerate(window["periodic"])},
+          **{f"constraint {j}": nodes[c["node"]] for j, c in enumerate(air["constraints"])})
     return functools.reduce(lambda total, c: alpha * total + at[c["when"]] * nodes[c["node"]],
                             air["constraints"], Cubic(0))
 
 # 5. The quotient
-def recomposition(n, k, chunks, q):
+def recomposition(n, k, chunks, q, trace):
     point, at = gen(n + k + 1), []
     for _ in range(2**k):
         at.append(vanishing(n, point) % P)
         point = add(point, gen(n + k))
-    total, x = Cubic(0), vanishing(n, q)
+    total, x, values = Cubic(0), vanishing(n, q), []
     for own, chunk in zip(at, chunks):
         factors = [(x - other) / lift(own - other) for other in at if other != own]
-        value = sum((Cubic(*(i == j for j in range(3))) * c for i, c in enumerate(chunk)), Cubic(0))
-        total = total + functools.reduce(Cubic.__mul__, factors, Cubic(1)) * value
+        basis = [Cubic(*(i == j for j in range(3))) for i in range(3)]
+        values.append(sum((b * c for b, c in zip(basis, chunk)), Cubic(0)))
+        total = total + functools.reduce(Cubic.__mul__, factors, Cubic(1)) * values[-1]
+    trace("stark", vanishing_of_parts=at, **{f"chunk {j}": value for j, value in enumerate(values)},
+          recomposition_at_zeta=total)
     return total
 
 # 6. The tests
@@ -211,34 +213,35 @@ def claims(n, proof, zeta, following):
     return [{"commitment": proof["trace_commitment"], "matrices": [trace]},
             {"commitment": proof["quotient_commitment"], "matrices": chunks}]
 
-def tests(statement, parameters, proof, note, challenger):
-    """All refusals in order, each with whether its reason holds. Numbers are noted by name."""
+def tests(statement, parameters, proof, trace, challenger):
+    """All refusals in order, each with whether its reason holds."""
     air, n, public = statement
     values, degrees = proof["opened_values"], []
     yield from air_refusals(air, degrees)
     k = log_chunks(air, degrees)
     yield from tests_before(statement, parameters, k, values)
-    alpha, zeta = draw(challenger, statement, proof)
-    note(alpha=alpha, zeta=zeta, state_after_zeta=challenger.state)
+    text = air_text(air)
+    trace("stark", k=k, air_text_bytes=len(text), air_text=text, air_digest=digest(air))
+    alpha, zeta = draw(challenger, statement, proof, trace)
     following = next_coordinate(n, zeta)
     yield "UnfitPoint", following is None
+    q = from_line(zeta)
+    trace("stark", q=q, next_of_zeta=following, x_at_zeta=vanishing(n, q))
     run = Run(claims(n, proof, zeta, following), parameters, proof["opening_proof"])
     yield from verify.tests_before(run)
-    yield from verify.tests_from(run, challenger, lambda text, **values: None)
-    q = from_line(zeta)
-    put_together = composition(statement, values, alpha, q)
-    recomposed = recomposition(n, k, values["quotient_chunks"], q)
-    note(next_of_zeta=following, x_at_zeta=vanishing(n, q), composition_at_zeta=put_together,
-         recomposition_at_zeta=recomposed)
-    yield "OodEvaluationMismatch", put_together != vanishing(n, q) * recomposed
+    yield from verify.tests_from(run, challenger, trace)
+    combined = composition(statement, values, alpha, q, trace)
+    trace("stark", composition_at_zeta=combined)
+    recomposed = recomposition(n, k, values["quotient_chunks"], q, trace)
+    yield "OodEvaluationMismatch", combined != vanishing(n, q) * recomposed
 
 # 7. The program
-OPENED = {"quotient_chunks": [[cubic]], "trace_local": [cubic], "trace_next": [cubic]}
-STARK = {"opened_values": OPENED, "opening_proof": PROOF, "quotient_commitment": DIGEST,
-         "trace_commitment": DIGEST}
+OPENED = {"trace_local": [cubic], "trace_next": [cubic], "quotient_chunks": [[cubic]]}
+STARK = {"trace_commitment": DIGEST, "quotient_commitment": DIGEST, "opened_values": OPENED,
+         "opening_proof": PROOF}
 INPUT = {"air": AIR, "log_n": COUNT, "params": params, "proof": STARK, "public_values": [P]}
 
-def answer(load, note=lambda **values: None, challenger=None):
+def answer(load, trace=lambda text, **values: None, challenger=None):
     """The line for the input whose bytes `load` returns, as a value, and the status. Without a
     challenger it is by one that has observed nothing."""
     try:
@@ -249,18 +252,19 @@ def answer(load, note=lambda **values: None, challenger=None):
         return {"unreadable": str(why)}, 2
     statement = given["air"], given["log_n"], given["public_values"]
     challenger = challenger or Challenger()
-    for name, holds in tests(statement, given["params"], given["proof"], note, challenger):
+    for name, holds in tests(statement, given["params"], given["proof"], trace, challenger):
         if holds:
             return {"refused": name}, 1
     name = digest(given["air"]).hex()
     return {"air_digest": name, "log_n": given["log_n"], "verified": True}, 0
 
 def main(args):
+    names, is_traced = [arg for arg in args if arg != "--trace"], "--trace" in args
     def load():
-        expect(len(args) < 2 and not "".join(args).startswith("--"), "usage")
-        with open(args[0] if args else 0, "rb") as file:
+        expect(len(names) < 2 and not "".join(names).startswith("--"), "usage")
+        with open(names[0] if names else 0, "rb") as file:
             return file.read()
-    found, status = answer(load)
+    found, status = answer(load, verify.write_trace) if is_traced else answer(load)
     os.write(1, json.dumps(found, separators=(",", ":")).encode() + b"\n")  # status 1 if it fails
     return status
 
