@@ -153,9 +153,9 @@ class Crate:
         *before, name = words
         if before:
             found = self.of_module.get(self.module(file, before))
-            for own, path in file.uses if len(before) == 1 else []:
+            for own, path in file.uses:
                 if own == before[0]:
-                    found = found or self.of_module.get(self.module(file, path))
+                    found = found or self.of_module.get(self.module(file, [*path, *before[1:]]))
             return self.declared(found, [name], (*seen, file)) if found else []
         if name in file.items:
             return file.items[name]
