@@ -13,7 +13,9 @@ use circle_commit::{
 use circle_field::{
     ComplexExtendable, Cubic, ExtensionField, Field, Mersenne31, batch_multiplicative_inverse,
 };
-use p3_circle::{CircleDomain, CircleEvaluations, CirclePeriodicEvaluator, Point, circle_basis};
+use p3_circle::{
+    Butterflies, CircleDomain, CircleEvaluations, CirclePeriodicEvaluator, Point, circle_basis,
+};
 use std::alloc::{AllocError, Global};
 
 /// Domains of the circle over [`Mersenne31`].
@@ -103,6 +105,15 @@ pub fn interpolate(alloc: Global, stage: Stage, domain: Domain) -> Result<Told> 
     stage.begin()?;
     let coefficients = CircleEvaluations::from_natural_order(domain, rows).interpolate(alloc)?;
     Ok(told(digest(coefficients.values())))
+}
+
+/// The count of the butterflies by which two rows become coefficients.
+pub fn butterflies(alloc: Global) -> Result<Butterflies> {
+    let domain = Domain::standard(1);
+    let rows = column_on(alloc, domain, 2)?;
+    let values = CircleEvaluations::from_natural_order(domain, rows);
+    let (_, butterflies) = values.interpolate_grouped(alloc, 1)?;
+    Ok(butterflies)
 }
 
 /// `CircleEvaluations::evaluate` on this domain.

@@ -31,11 +31,13 @@ pub fn challenger(stage: Stage) -> Result<Told> {
     };
     let passes = verifier.check_witness(8, witness);
     let is_new = prover == Sha256Challenger::default();
+    let is_kept = prover == Sha256Challenger::from_state(prover.to_state());
     Ok(told_numbers(&[
         digest(&[drawn, witness]),
         digest(&[extended]),
         low_bits(bits),
         u32::from(passes),
         u32::from(is_new),
+        u32::from(is_kept),
     ]))
 }

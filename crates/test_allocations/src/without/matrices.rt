@@ -1,5 +1,5 @@
 //! The calls of matrices and of values on a domain that allocate nothing.
-use crate::plane::{Domain, Rows, elements};
+use crate::plane::{Domain, Rows, butterflies, elements};
 use crate::told::{Stage, Told, digest, low_bits, told_numbers, unfit, with_number};
 use anyhow::Result;
 use circle_commit::{
@@ -72,6 +72,7 @@ fn of_table(rows: Rows) -> Result<u32> {
 pub fn matrices(alloc: Global, stage: Stage) -> Result<Told> {
     let (rows, others) = (elements(alloc, 8)?, elements(alloc, 8)?);
     let (permuted, table) = (elements(alloc, 8)?, elements(alloc, 8)?);
+    let counted = butterflies(alloc)?;
     stage.begin()?;
     let Some(rows) = RowMajorMatrix::try_new(rows, 2) else {
         return unfit("the entries are no rows of two");
@@ -92,5 +93,6 @@ pub fn matrices(alloc: Global, stage: Stage) -> Result<Told> {
         of_table(RowMajorMatrix::new_col(table))?,
         digest(rows.into_values().as_slice()),
         low_bits(entry_count(3, 4)?),
+        u32::from(counted.count() == 1),
     ]))
 }

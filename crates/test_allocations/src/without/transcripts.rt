@@ -15,6 +15,7 @@ use circle_challenger::{
     CanSample, DomainSeparator, Hierarchy, Interaction, InteractionPattern, Kind, Length,
     ProverState, Sha256Challenger, TranscriptState, VerifierState,
 };
+use circle_commit::PowPhase;
 use circle_field::{Cubic, Field, Mersenne31};
 use p3_circle::{
     CircleProverTranscript, CircleTranscriptFailure, CircleVerifierTranscript, Neutral, Point,
@@ -30,6 +31,8 @@ const ALPHA: &str = "challenge";
 const COMMITMENT: &str = "commitment";
 
 const FINAL: &str = "final";
+
+const INDICES: &str = "indices";
 
 type Prover<'a> = CircleProverTranscript<'a, Sha256Challenger, Mersenne31, Cubic, [u8; 32]>;
 
@@ -103,6 +106,36 @@ fn of_readers(separator: &DomainSeparator) -> [usize; 3] {
     ]
 }
 
+// A step of each kind of values.
+fn steps() -> [Interaction; 3] {
+    [
+        Interaction::algebra(Hierarchy::Atomic, Kind::Message, FINAL, 3, Length::Scalar),
+        Interaction::opaque(Hierarchy::Atomic, Kind::Message, COMMITMENT, Length::Scalar),
+        Interaction::bits(
+            Hierarchy::Atomic,
+            Kind::Challenge,
+            INDICES,
+            10,
+            Length::Fixed(3),
+        ),
+    ]
+}
+
+// Whether a pattern of these steps has those that are made again.
+fn of_pattern(listed: Vec<Interaction>) -> bool {
+    InteractionPattern::new(listed).steps() == steps().as_slice()
+}
+
+// The phases that failures name.
+fn of_failures() -> [bool; 3] {
+    let phase = PowPhase::Batch;
+    [
+        CircleTranscriptFailure::PowWitness { phase, bits: 8 }.phase() == phase,
+        CircleTranscriptFailure::NoWitness { phase, bits: 8 }.phase() == phase,
+        CircleTranscriptFailure::Memory.phase() == PowPhase::Query,
+    ]
+}
+
 // What is drawn after a transcript that was paused and resumed.
 fn of_paused(separator: &DomainSeparator) -> Mersenne31 {
     let mut challenger = Sha256Challenger::new();
@@ -148,6 +181,9 @@ fn verify(transcript: &mut Verifier<'_>) -> Result<[Cubic; 3], CircleTranscriptF
     requires run { IsRun (numbers transcript.old) (due_of transcript.old) }
     requires batch { (numbers transcript.old).batch_pow_bits ≡ 0 }
     requires commit { (numbers transcript.old).commit_pow_bits ≡ 0 }
+    ensures same { numbers transcript.new ≡ numbers transcript.old }
+    ensures queries { OnOk result
+        (due_of transcript.new ≡ indices_steps 3 (numbers transcript.old)) }
 {
     let values = [cubic([5, 6, 7])];
     let claims = [(Point::<Cubic>::ZERO, values.as_slice())];
@@ -157,9 +193,28 @@ fn verify(transcript: &mut Verifier<'_>) -> Result<[Cubic; 3], CircleTranscriptF
     Ok([alpha, bivariate, beta])
 }
 
+// Plays the whole run as the verifier, whose queries are as many as this.
+fn verify_whole(
+    alloc: Global,
+    transcript: &mut Verifier<'_>,
+) -> Result<usize, CircleTranscriptFailure>
+    requires run { IsRun (numbers transcript.old) (due_of transcript.old) }
+    requires batch { (numbers transcript.old).batch_pow_bits ≡ 0 }
+    requires commit { (numbers transcript.old).commit_pow_bits ≡ 0 }
+    requires query { (numbers transcript.old).query_pow_bits ≡ 0 }
+    requires index { (numbers transcript.old).index_bits ≤ 63 }
+    requires constant { (numbers transcript.old).log_final_poly_len ≡ 0 }
+    ensures { OnOk result (due_of transcript.new ≡ []) }
+{
+    verify(transcript)?;
+    let indices = transcript.query_phase(alloc, &[cubic([1, 2, 3])], Mersenne31::ZERO)?;
+    Ok(indices.len())
+}
+
 /// The calls of the challenger's transcripts, all but those that draw numbers.
 pub fn states(alloc: Global, stage: Stage) -> Result<Told> {
     let separator = separator(alloc)?;
+    let listed = vec![in alloc; steps()[0], steps()[1], steps()[2]]?;
     stage.begin()?;
     let Some((witness, proved, checked)) = of_states(&separator) else {
         return unfit("no witness passes");
@@ -172,6 +227,8 @@ pub fn states(alloc: Global, stage: Stage) -> Result<Told> {
         low_bits(steps),
         low_bits(labels),
         low_bits(bytes),
+        u32::from(of_pattern(listed)),
+        u32::from(of_failures() == [true; 3]),
     ]))
 }
 
@@ -222,4 +279,25 @@ pub fn verifier(alloc: Global, stage: Stage) -> Result<Told> {
     let drawn = verify(&mut transcript);
     transcript.abort();
     Ok(told_numbers(&[digest(&drawn?)]))
+}
+
+/// `finish` of the verifier's transcript, once the indices of the queries are drawn.
+pub fn finish_of_verifier(alloc: Global, stage: Stage) -> Result<Told> {
+    let shape = shape(alloc)?;
+    let mut challenger = Sha256Challenger::new();
+    let mut transcript = Verifier::new(alloc, &mut challenger, shape)?;
+    let count = match verify_whole(alloc, &mut transcript) {
+        Ok(count) => count,
+        Err(failure) => {
+            transcript.abort();
+            return Err(failure.into());
+        }
+    };
+    if let Err(end) = stage.begin() {
+        transcript.abort();
+        return Err(end);
+    }
+    transcript.finish();
+    let next: Mersenne31 = challenger.sample();
+    Ok(told_numbers(&[low_bits(count), digest(&[next])]))
 }
