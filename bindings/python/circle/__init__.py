@@ -201,7 +201,8 @@ def prove(
     challenger: Optional[Challenger] = None,
 ) -> Tuple[Statement, Proof]:
     """Commits to batches of matrices, opens them and returns the claims with their proof, which
-    `verify` accepts if every matrix is opened at a point.
+    `verify` accepts if every matrix is opened at a point. Matrices of several heights in one proof
+    are weak (docs/SECURITY.md): prove each height by a call of its own.
 
     A challenger must have absorbed what the protocol requires, such as the commitments. The call
     itself absorbs nothing before the proof, not even the commitments. The challenger ends in the
