@@ -143,7 +143,7 @@ def _queries(params: Params, each: float) -> float:
 
 
 def _conjectured(params: Params, height: int, field_bits: float) -> Level:
-    queries, field = _queries(params, params.log_blowup), field_bits - height
+    queries, field = _queries(params, float(params.log_blowup)), field_bits - height
     return Level(min(queries, field) - 1, queries, field)
 
 
