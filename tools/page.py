@@ -3,8 +3,9 @@
 A section of the page that is named for a language has a program, in a block of that language, which
 proves a statement and judges the proof. Its indented lines are the commands, in order, in a folder
 where `bundle` is an unpacked bundle. The table in the section `A bundle` says what stands in a
-clone for the places of a bundle. The section `A protocol` has a program for each of two languages,
-and its command, which is run in the same folder as that language's other program.
+clone for the places of a bundle. The sections `A protocol` and `Several heights` have a program for
+each of two languages, and its command, which is run in the same folder as that language's other
+program.
 """
 import json
 import os
@@ -22,12 +23,14 @@ LANGUAGES = {
     "Rust": (["cargo", "cc"], {"rust": "sevens/src/main.rs"}, "proof.json", "verified\n"),
     "C": (["cc"], {"c": "sevens.c", "json": "sevens.json"}, "claims.json", '{"verified":true}\n'),
 }
-# Of each language that has a program of a protocol, the kind of its block, its file, and what its
-# command begins with.
-PROTOCOL = "A protocol"
+# Of each section about protocols and each language that has a program there, the kind of its block,
+# its file, and what its command begins with.
 PROTOCOLS = {
-    "Python": ("python", "protocol.py", "site/bin/python "),
-    "Rust": ("rust", "bundle/rust/examples/protocol.rs", "cargo "),
+    heading: {
+        "Python": ("python", f"{name}.py", "site/bin/python "),
+        "Rust": ("rust", f"bundle/rust/examples/{name}.rs", "cargo "),
+    }
+    for heading, name in (("A protocol", "protocol"), ("Several heights", "heights"))
 }
 
 
@@ -50,6 +53,12 @@ def blocks(language):
     """The files that the section's blocks stand for, with their texts."""
     _, files, *_ = LANGUAGES[language]
     return {file: block(language, kind) for kind, file in files.items()}
+
+
+def protocols():
+    """The texts of the programs of protocols that only the page has, by their files."""
+    programs = {heading: it["Python"] for heading, it in PROTOCOLS.items()}
+    return {file: block(heading, kind) for heading, (kind, file, _) in programs.items()}
 
 
 def placed(text, places):
@@ -102,7 +111,7 @@ def environment(room):
 def try_program(room, language, places):
     """Makes a language's program in a folder and runs it, with these places in those of the page.
     It is to accept its own proof, and to refuse that proof once it is damaged. Then runs the
-    language's program of a protocol."""
+    language's programs of protocols."""
     *_, proof, accepted = LANGUAGES[language]
     env = environment(room)
     for line in commands(language, places):
@@ -114,20 +123,21 @@ def try_program(room, language, places):
     said = run(room, line, env)
     if not said[1] or said[0] == accepted:
         raise Fault(f"{line}, of a damaged proof: {said}")
-    if language in PROTOCOLS:
-        try_protocol(room, language, places)
+    for heading, programs in PROTOCOLS.items():
+        if language in programs:
+            try_protocol(room, heading, programs[language], places)
 
 
-def try_protocol(room, language, places):
-    """Runs a language's program of a protocol, which is to verify its own proof. A file that is
+def try_protocol(room, heading, program, places):
+    """Runs a section's program of a protocol, which is to verify its own proofs. A file that is
     there is to be the one that the page shows."""
-    kind, file, begin = PROTOCOLS[language]
-    path, text = room / placed(file, places), block(PROTOCOL, kind)
+    kind, file, begin = program
+    path, text = room / placed(file, places), block(heading, kind)
     if not path.exists():
         path.write_text(text, encoding="utf-8")
     if path.read_text(encoding="utf-8") != text:
         raise Fault(f"the page shows another program than {path}")
-    (line,) = (it for it in commands(PROTOCOL, places) if it.startswith(begin))
+    (line,) = (it for it in commands(heading, places) if it.startswith(begin))
     said = run(room, line, environment(room))
     if said[:2] != ("verified\n", 0):
         raise Fault(f"{line}: {said}")

@@ -101,7 +101,8 @@ uint8_t circle_values(const uint8_t *text, size_t text_len, uint8_t *line, size_
                       size_t *needed);
 
 /* Claims with their proof, which circle_verify reads. If the line doesn't fit, a call with a longer
- * one proves again. */
+ * one proves again. Matrices of several heights in one proof are weak (docs/SECURITY.md): prove
+ * each height by a call of its own. */
 uint8_t circle_prove(const uint8_t *text, size_t text_len, uint8_t *line, size_t line_len,
                      size_t *needed);
 

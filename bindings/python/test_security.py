@@ -7,6 +7,8 @@ import os
 import re
 import subprocess
 import unittest
+from fractions import Fraction
+from math import log2
 
 import test_circle as given
 
@@ -71,14 +73,77 @@ class Tables(unittest.TestCase):
     def test_levels_that_the_page_names(self):
         told = re.search(
             r"The 40 queries of `circle_example`, at B = 1 and w = 8, are (\d+) bits conjectured "
-            r"and (\d+) within unique decoding.*? `two_heights`, has (\d+) and (\d+) bits\.",
+            r"and (\d+) within unique decoding.*? `two_heights`, .*? has at most (\d+) bits\.",
             " ".join(PAGE.split()),
         )
-        found = []
-        for work in (8, 0):
-            levels = circle.bits(params(1, 40, work), 4, 1)
-            found += [levels.conjectured.bits, levels.unique_decoding.queries - 1]
+        levels = circle.bits(params(1, 40, 8), 6, 3)
+        several = circle.bits(params(1, 40), 4, 2, other_log_n=[2])
+        found = [levels.conjectured.bits, levels.unique_decoding.queries - 1, several.at_most]
         self.assertEqual([int(it) for it in found], [int(it) for it in told.groups()])
+
+    def test_what_a_query_counts_at_several_heights(self):
+        rows = table("| `log_blowup` | one height, conjectured")
+        self.assertEqual([row[0] for row in rows], ["1", "2", "3", "4", "more"])
+        for blowup, conjectured, *cells in rows[:4]:
+            self.assertEqual(blowup, conjectured)
+            for gap, cell in enumerate(cells, 1):
+                share, each = cell.split(", ")
+                found = circle.bits(
+                    params(int(blowup)), 20, 1, other_log_n=[20 - gap], field_bits=1000.0
+                )
+                self.assertAlmostEqual(found.each, -log2(Fraction(share)), delta=1e-4)
+                self.assertEqual(f"{found.each:.3f}", each)
+        for blowup, gap in itertools.product((5, 8, 15), (1, 2)):
+            found = circle.bits(params(blowup), 14, 1, other_log_n=[14 - gap])
+            self.assertTrue(1.5 < found.each <= 2)
+
+    def test_what_a_query_counts_by_the_theorem_on_complete_groups(self):
+        text = " ".join(PAGE.split())
+        told = re.search(r"B from 1 to 4 it gives ([\d., and]+) bits a query at r = 1, and ([^a-z]+ "
+                         r"and [\d.]+) at r = 2", text)
+        for r, numbers in enumerate(told.groups(), 1):
+            found = [-log2(1 - (1 - 2.0**-b) / 2 ** (r + 2)) for b in (1, 2, 3, 4)]
+            self.assertEqual(re.findall(r"\d\.\d+", numbers), [f"{it:.3f}" for it in found])
+
+
+class SeveralHeights(unittest.TestCase):
+    def several(self, given, log_n, *others):
+        found = circle.bits(given, log_n, 1, other_log_n=others)
+        self.assertIsInstance(found, circle.SeveralHeights)
+        return found
+
+    def test_one_height_has_levels(self):
+        for others in ([], [5], [5, 5]):
+            found = circle.bits(params(1, 40), 5, 1, other_log_n=others)
+            self.assertEqual(found, circle.bits(params(1, 40), 5, 1))
+
+    def test_the_order_of_heights_makes_no_difference(self):
+        for heights in itertools.permutations((3, 4, 9)):
+            self.assertEqual(self.several(params(3, 40), *heights).each, -log2(3 / 8 + 2**-7))
+
+    def test_the_nearest_heights_count(self):
+        far, near = (self.several(params(2, 40), 9, it) for it in (4, 8))
+        self.assertEqual((far.each, near.each), (-log2(1 / 4 + 2**-6), 1.0))
+        self.assertEqual(self.several(params(2, 40), 9, 4, 8).each, near.each)
+
+    def test_work_and_field(self):
+        self.assertEqual(self.several(params(2, 40, 7), 9, 8).at_most, 47.0)
+        self.assertEqual(self.several(params(2, 400), 9, 8).at_most, 93.0 - 11)
+        # One query is free.
+        self.assertEqual(self.several(params(2, 1, 7), 9, 8).at_most, 7.0)
+
+    def test_a_blowup_hardly_helps(self):
+        for blowup, gap in itertools.product(range(1, 20), (1, 2)):
+            self.assertLessEqual(self.several(params(blowup), 9, 9 - gap).each, 2)
+
+    def test_what_the_forged_proof_costs(self):
+        """41 of its 128 positions pass."""
+        found = circle.bits(params(4, 3), 3, 1, other_log_n=[2])
+        self.assertAlmostEqual(found.at_most, 3 * log2(128 / 41))
+
+    def test_heights_that_have_no_bits(self):
+        for log_n in (-1, 30):
+            self.assertRaises(ValueError, circle.bits, params(1), 4, 1, other_log_n=[log_n])
 
 
 class Levels(unittest.TestCase):
@@ -111,16 +176,36 @@ class Script(unittest.TestCase):
         return ran.stdout and json.loads(ran.stdout), ran.returncode
 
     def test_of_claims(self):
+        found, status = self.answer(given.stored("eight_sevens_two_coefficients", "verify"))
+        (levels,) = found.pop("heights")
+        self.assertEqual((found, status, levels["log_height"], levels["values"]), ({}, 0, 4, 1))
+
+    def test_of_claims_of_two_heights(self):
         found, status = self.answer(given.stored("two_heights", "verify"))
         self.assertEqual(([it["log_height"] for it in found["heights"]], status), ([3, 5], 0))
         for it in found["heights"]:
-            self.assertEqual((int(it["conjectured"]), int(it["unique_decoding"])), (32, 10))
+            self.assertEqual(it.keys(), {"in_a_run_of_its_own", "log_height", "values"})
+            levels = it["in_a_run_of_its_own"]
+            self.assertEqual((levels["conjectured"], levels["unique_decoding"]), (38.0, 16.1))
+        self.assertEqual(found["several_heights"]["at_most"], 31.1)
+        self.assertIn("open each in a run of its own", found["several_heights"]["note"])
+
+    def test_of_a_proof_that_is_forged_at_two_heights(self):
+        """It is accepted, as the case of the same name requires, and worth next to nothing."""
+        text = (given.DATA / "forged_at_two_heights.verify.json").read_text()
+        cases = json.loads((given.DATA / "forged.json").read_text())["cases"]
+        (case,) = (it for it in cases if "free siblings" in it["name"])
+        self.assertEqual(case["given"], {"file": "forged_at_two_heights.verify.json"})
+        self.assertEqual(case["due"], {"line": {"verified": True}, "status": 0})
+        found, status = self.answer(text)
+        self.assertEqual((found["several_heights"]["at_most"], status), (4.9, 0))
+        self.assertTrue(all("conjectured" not in it for it in found["heights"]))
 
     def test_of_a_shape(self):
         value = {"log_max_height": 12, "opened_widths": [[[1, 2], [3]], [[4]]]}
-        value["params"] = {**given.SEVENS, "num_queries": 89}
+        value["params"] = {**given.SEVENS, "num_queries": 82}
         (found,), status = self.answer(json.dumps(value))[0]["heights"], 0
-        due = circle.bits(params(1, 89), 11, 10)
+        due = circle.bits(params(1, 82), 11, 10)
         self.assertEqual((found["log_height"], found["values"], status), (12, 10, 0))
         self.assertEqual(found["conjectured"], 80.0)
         for kind in ("unique_decoding", "johnson"):

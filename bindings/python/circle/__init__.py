@@ -30,8 +30,10 @@ it runs out of memory. That is proved of the library. This package is tested and
 docs/BINDINGS.md says what remains.
 
 `prove_text`, `verify_text`, `verify_as_stated`, `shape` and `values` take texts, as str or as the
-bytes of UTF-8, which docs/PROGRAM.md describes. `bits` returns how many bits of security parameters
-give.
+bytes of UTF-8, which docs/PROGRAM.md describes.
+
+`bits` returns how many bits of security parameters give to claims of one height. Claims of several
+heights in one run are weak (docs/SECURITY.md): open each height in a run of its own.
 
 A protocol commits with `commit`, and has a `Challenger` on each side, which absorbs the commitments
 and then draws the points; `prove` and `verify` start from it (docs/BINDINGS.md).
@@ -80,7 +82,7 @@ from .records import (
     RoundOpening,
     Statement,
 )
-from .security import Bits, Level, bits
+from .security import Bits, Level, SeveralHeights, bits
 
 __all__ = [
     "Air",
@@ -104,6 +106,7 @@ __all__ = [
     "Proof",
     "Refused",
     "RoundOpening",
+    "SeveralHeights",
     "Statement",
     "Unreadable",
     "Unsatisfied",
@@ -198,7 +201,8 @@ def prove(
     challenger: Optional[Challenger] = None,
 ) -> Tuple[Statement, Proof]:
     """Commits to batches of matrices, opens them and returns the claims with their proof, which
-    `verify` accepts if every matrix is opened at a point.
+    `verify` accepts if every matrix is opened at a point. Matrices of several heights in one proof
+    are weak (docs/SECURITY.md): prove each height by a call of its own.
 
     A challenger must have absorbed what the protocol requires, such as the commitments. The call
     itself absorbs nothing before the proof, not even the commitments. The challenger ends in the

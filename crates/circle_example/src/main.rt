@@ -1,5 +1,6 @@
-//! A prover commits to two batches of matrices and opens them at a drawn point and the next one; a
-//! verifier takes what it publishes, and refuses that once its commitments are exchanged.
+//! A prover commits to matrices of two heights, and opens each height in a run of its own, at a drawn
+//! point and the next one; a verifier takes what it publishes, and refuses that once its commitments
+//! are exchanged.
 #![tactic(auto)]
 
 use anyhow::{Result, bail};
@@ -29,12 +30,18 @@ const PARAMETERS: FriParameters<()> = FriParameters {
 /// What the verifier returns.
 type Answer = Result<(), VerifierError>;
 
+/// What the prover publishes of one height.
+#[derive(Drop)]
+struct Opening {
+    values: OpenedValues<Challenge>,
+    proof: Proof,
+}
+
 /// What the prover publishes.
 #[derive(Drop)]
 struct Published {
     commitments: [Commitment; 2],
-    values: OpenedValues<Challenge>,
-    proof: Proof,
+    openings: [Opening; 2],
 }
 
 /// The first `rows` powers of two, as a column.
@@ -52,27 +59,19 @@ fn after_commitments(commitments: &[Commitment; 2]) -> (Challenger, Challenge) {
     (challenger, point)
 }
 
-/// The points that the matrices of each batch are opened at.
+/// The points that the matrices of each height are opened at.
 fn points(alloc: Global, point: Challenge) -> Result<[Vec<Vec<Challenge>>; 2]> {
-    let Some(next) = Domain::standard(6).next_point(point) else {
+    let [tall, low] = [Domain::standard(6), Domain::standard(5)];
+    let Some(next) = tall.next_point(point) else {
+        bail!("the drawn point has no successor");
+    };
+    let Some(next_of_low) = low.next_point(point) else {
         bail!("the drawn point has no successor");
     };
     Ok([
         vec![in alloc; vec![in alloc; point, next]?, vec![in alloc; point]?]?,
-        vec![in alloc; vec![in alloc; point, next]?]?,
+        vec![in alloc; vec![in alloc; point, next_of_low]?]?,
     ])
-}
-
-/// What is to be opened of both batches.
-fn requests(alloc: Global, data: &[ProverData; 2], point: Challenge) -> Result<Vec<Request<'_>>> {
-    let mut requests = Vec::new(alloc);
-    for (prover_data, points) in data.iter().zip(points(alloc, point)?) {
-        requests.push(Request {
-            prover_data,
-            points,
-        })?;
-    }
-    Ok(requests)
 }
 
 /// Commits to matrices, each with its domain.
@@ -87,47 +86,78 @@ fn commit(
     Ok(pcs.commit(alloc, batch)?)
 }
 
-fn prove(alloc: Global, pcs: &Scheme) -> Result<Published> {
-    let [tall, low] = [Domain::standard(6), Domain::standard(5)];
-    let first = vec![in alloc; (tall, column(alloc, 64)?), (low, column(alloc, 32)?)]?;
-    let second = vec![in alloc; (tall, column(alloc, 64)?)]?;
-    let (first, first_data) = commit(alloc, pcs, first)?;
-    let (second, second_data) = commit(alloc, pcs, second)?;
-
-    let commitments = [first, second];
-    let (mut challenger, point) = after_commitments(&commitments);
-    let data = [first_data, second_data];
-    let requests = requests(alloc, &data, point)?;
+/// Opens a batch of one height, in a run of its own.
+fn open(
+    alloc: Global,
+    pcs: &Scheme,
+    prover_data: &ProverData,
+    points: Vec<Vec<Challenge>>,
+    challenger: &mut Challenger,
+) -> Result<Opening> {
+    let mut requests = Vec::new(alloc);
+    requests.push(Request {
+        prover_data,
+        points,
+    })?;
     if !pcs.have_heights_of_powers(&requests) {
         bail!("a height is no power of two");
     }
-    let (values, proof) = pcs.open(alloc, requests, &mut challenger)?;
+    let (values, proof) = pcs.open(alloc, requests, challenger)?;
+    Ok(Opening { values, proof })
+}
+
+fn prove(alloc: Global, pcs: &Scheme) -> Result<Published> {
+    let [tall, low] = [Domain::standard(6), Domain::standard(5)];
+    let of_tall = vec![in alloc; (tall, column(alloc, 64)?), (tall, column(alloc, 64)?)]?;
+    let of_low = vec![in alloc; (low, column(alloc, 32)?)]?;
+    let (tall, tall_data) = commit(alloc, pcs, of_tall)?;
+    let (low, low_data) = commit(alloc, pcs, of_low)?;
+
+    let commitments = [tall, low];
+    let (mut challenger, point) = after_commitments(&commitments);
+    let [at_tall, at_low] = points(alloc, point)?;
+    let of_tall = open(alloc, pcs, &tall_data, at_tall, &mut challenger)?;
+    let of_low = open(alloc, pcs, &low_data, at_low, &mut challenger)?;
     Ok(Published {
         commitments,
-        values,
-        proof,
+        openings: [of_tall, of_low],
     })
+}
+
+/// The verdict on one height, in a run of its own.
+fn verify_height(
+    alloc: Global,
+    pcs: &Scheme,
+    known: Known,
+    opening: &Opening,
+    challenger: &mut Challenger,
+) -> Result<Answer> {
+    let known = vec![in alloc; known]?;
+    let claims = claims_of(alloc, known, opening.values.clone()?)?;
+    Ok(pcs.verify(alloc, claims, &opening.proof, challenger))
 }
 
 /// The verdict on what is published.
 fn verify(alloc: Global, pcs: &Scheme, published: &Published) -> Result<Answer> {
     let (mut challenger, point) = after_commitments(&published.commitments);
-    let [of_first, of_second] = points(alloc, point)?;
+    let [at_tall, at_low] = points(alloc, point)?;
     let [tall, low] = [Domain::standard(6), Domain::standard(5)];
     let [first, second] = published.commitments;
     let first = Known {
         commitment: first,
-        domains: vec![in alloc; tall, low]?,
-        points: of_first,
+        domains: vec![in alloc; tall, tall]?,
+        points: at_tall,
     };
     let second = Known {
         commitment: second,
-        domains: vec![in alloc; tall]?,
-        points: of_second,
+        domains: vec![in alloc; low]?,
+        points: at_low,
     };
-    let known = vec![in alloc; first, second]?;
-    let claims = claims_of(alloc, known, published.values.clone()?)?;
-    Ok(pcs.verify(alloc, claims, &published.proof, &mut challenger))
+    let [of_tall, of_low] = &published.openings;
+    if let Err(error) = verify_height(alloc, pcs, first, of_tall, &mut challenger)? {
+        return Ok(Err(error));
+    }
+    verify_height(alloc, pcs, second, of_low, &mut challenger)
 }
 
 /// How a verdict is printed.
