@@ -1,6 +1,6 @@
 -- The laws of the traits of schemes that rest on the mathematics of an opening, of the scheme.
-use Rattle.std.specs.Prelude.{◌≡◌, ◌↔◌, ◌⊎◌, ℕ, ◌^◌, ◌<◌, ◌≤◌, Bool, true, IsTrue, List, []}
-use Rattle.std.specs.Prelude.{◌∷◌, length, zip, All, Ok, slice_index_or}
+use Rattle.std.specs.Prelude.{◌≡◌, ◌↔◌, ◌⊎◌, ℕ, ◌^◌, ◌<◌, ◌≤◌, Bool, true, false, IsTrue, List}
+use Rattle.std.specs.Prelude.{[], ◌∷◌, length, zip, All, Ok, slice_index_or}
 use Rattle.std.specs.List.{AllByRecursion, AllZip}
 use Rattle.std.proofs.Common.{refl, sym, subst, arith, inl, inr}
 use Rattle.std.proofs.lemmas.Bool.{cases_Bool}
@@ -129,7 +129,7 @@ pub honest-commit : {F E M : Type 0} {g : Ghosts F} {gen : ℕ → Coordinates F
 honest-commit {gen = gen} {l} {embed} f eq eq_law two p batch points err honest refused =
     memory-is err
     (unrefused (commit_tests two p eq f batch) (λ x. x ≡ Memory) err
-    (honest-passes f eq eq_law two p batch points honest) refused)
+    (honest-passes f eq eq_law two p gen l embed batch points honest) refused)
 
 module _ {F E M : Type 0} {g : Ghosts F} (k : Fields F E) (base : FieldLaws k.field)
     (laws : FieldLaws k.extension) (e : IsEmbedding k.field k.extension k.embed)
@@ -190,9 +190,9 @@ module _ {F E M : Type 0} {g : Ghosts F} (k : Fields F E) (base : FieldLaws k.fi
             honest.1 in
             let failure = unrefused-from tests (IsFailure k r p WordCommits kept requests s) s t err
             ok refused in
-            let known = λ i d lt.
-            let h = honest.1 i d lt in (h.batch, h.commitment, h.committed) in
-            memory-is err (elim (failed-by known ok failure) [
+            memory-is err (elim (failed-by
+            (λ i d lt. let h = honest.1 i d lt in (h.batch, h.commitment, h.committed)) ok
+            failure) [
               | inl memory ↦ memory
               | inr stuck ↦ absurd (finds.never_stuck stuck.0 err stuck.1 stuck.2)
             ])

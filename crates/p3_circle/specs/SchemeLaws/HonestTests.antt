@@ -170,24 +170,24 @@ module _ {F M : Type 0} {g : Ghosts F} (f : FieldOps F) (eq : F → F → Bool)
       skipped _ _ (tt {0}) (ne_eqb (length batch) 0 (λ e. omega (arith, e, some)))
       ∙ rows-pass batch can
 
-  committable : {E : Type 0} {gen : ℕ → Coordinates F} {l : FieldOps E} {embed : F → E}
+  committable : {E : Type 0} (gen : ℕ → Coordinates F) (l : FieldOps E) (embed : F → E)
       (batch : List (CircleDomain F g × RowMajorMatrix F)) (points : List (List E)) →
       AllZip (CanBeOpenedAt f gen l embed two p) batch points → AreCommittable batch
-  committable [] points can = λ i d lt. absurd (omega (arith, lt))
-  committable (x ∷ batch) [] can = absurd can
-  committable (x ∷ batch) (t ∷ points) can =
+  committable gen l embed [] points can = λ i d lt. absurd (omega (arith, lt))
+  committable gen l embed (x ∷ batch) [] can = absurd can
+  committable gen l embed (x ∷ batch) (t ∷ points) can =
       All-cons
       (λ (x : CircleDomain F g × RowMajorMatrix F). (p.log_final_poly_len + 2 ≤ log_size x.0)
       × IsExtendable f two p.log_blowup x.0) x batch
-      (can.0.large, (can.0.in_group, can.0.genuine)) (committable batch points can.1)
+      (can.0.large, (can.0.in_group, can.0.genuine)) (committable gen l embed batch points can.1)
 
   -- an honest batch
-  pub honest-passes : {E : Type 0} {gen : ℕ → Coordinates F} {l : FieldOps E} {embed : F → E}
+  pub honest-passes : {E : Type 0} (gen : ℕ → Coordinates F) (l : FieldOps E) (embed : F → E)
       (batch : List (CircleDomain F g × RowMajorMatrix F)) (points : List (List E)) →
       IsHonestBatch f gen l embed two p batch points →
       answer (commit_tests two p eq f batch) (tt {0}) ≡ Ok (tt {0})
-  honest-passes batch points honest =
-      batch-passes batch honest.some (committable batch points honest.rows)
+  honest-passes gen l embed batch points honest =
+      batch-passes batch honest.some (committable gen l embed batch points honest.rows)
 
 module _ {F E M : Type 0} {g : Ghosts F} (k : Fields F E) (same : E → E → Bool)
     (law : (a b : E) → (same a b ≡ true) ↔ (a ≡ b)) (two : ℕ) (small : two ≤ 62)
