@@ -41,7 +41,8 @@ struct Opening {
 #[derive(Drop)]
 struct Published {
     commitments: [Commitment; 2],
-    openings: [Opening; 2],
+    tall: Opening,
+    low: Opening,
 }
 
 /// The first `rows` powers of two, as a column.
@@ -86,6 +87,20 @@ fn commit(
     Ok(pcs.commit(alloc, batch)?)
 }
 
+/// What is to be opened of a batch.
+fn requests(
+    alloc: Global,
+    prover_data: &ProverData,
+    points: Vec<Vec<Challenge>>,
+) -> Result<Vec<Request<'_>>> {
+    Ok(vec![in alloc;
+        Request {
+            prover_data,
+            points
+        },
+    ]?)
+}
+
 /// Opens a batch of one height, in a run of its own.
 fn open(
     alloc: Global,
@@ -94,11 +109,7 @@ fn open(
     points: Vec<Vec<Challenge>>,
     challenger: &mut Challenger,
 ) -> Result<Opening> {
-    let mut requests = Vec::new(alloc);
-    requests.push(Request {
-        prover_data,
-        points,
-    })?;
+    let requests = requests(alloc, prover_data, points)?;
     if !pcs.have_heights_of_powers(&requests) {
         bail!("a height is no power of two");
     }
@@ -116,11 +127,12 @@ fn prove(alloc: Global, pcs: &Scheme) -> Result<Published> {
     let commitments = [tall, low];
     let (mut challenger, point) = after_commitments(&commitments);
     let [at_tall, at_low] = points(alloc, point)?;
-    let of_tall = open(alloc, pcs, &tall_data, at_tall, &mut challenger)?;
-    let of_low = open(alloc, pcs, &low_data, at_low, &mut challenger)?;
+    let tall = open(alloc, pcs, &tall_data, at_tall, &mut challenger)?;
+    let low = open(alloc, pcs, &low_data, at_low, &mut challenger)?;
     Ok(Published {
         commitments,
-        openings: [of_tall, of_low],
+        tall,
+        low,
     })
 }
 
@@ -153,11 +165,10 @@ fn verify(alloc: Global, pcs: &Scheme, published: &Published) -> Result<Answer> 
         domains: vec![in alloc; low]?,
         points: at_low,
     };
-    let [of_tall, of_low] = &published.openings;
-    if let Err(error) = verify_height(alloc, pcs, first, of_tall, &mut challenger)? {
-        return Ok(Err(error));
+    match verify_height(alloc, pcs, first, &published.tall, &mut challenger)? {
+        Ok(()) => verify_height(alloc, pcs, second, &published.low, &mut challenger),
+        Err(error) => Ok(Err(error)),
     }
-    verify_height(alloc, pcs, second, of_low, &mut challenger)
 }
 
 /// How a verdict is printed.
