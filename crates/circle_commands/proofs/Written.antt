@@ -21,8 +21,8 @@ module _ (old mid new : Option (List ℕ)) (bytes : List ℕ) (n : ℕ) (front :
       let fits : m ≤ length (drop n bytes) = subst (λ (l : List ℕ). m ≤ length l) rest short in (
         omega (arith, length-drop n bytes, fits, front.0),
         subst (λ (l : List ℕ). Appends old new l) (sym (take-add n m bytes))
-        (Appends-trans old mid new (take n bytes) (take m (drop n bytes)) front.1
-        (subst (λ (l : List ℕ). Appends mid new (take m l)) rest more)),
+            (Appends-trans old mid new (take n bytes) (take m (drop n bytes)) front.1
+            (subst (λ (l : List ℕ). Appends mid new (take m l)) rest more)),
       )
 
   -- a write that fails keeps them
