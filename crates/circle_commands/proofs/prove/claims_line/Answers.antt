@@ -13,7 +13,8 @@ returns c =
     let value = view c.in_ok-to_json.field-0 in
     let plain = looser 9 127 (claims_form.written x) (omega arith) (claims x) in
     if-ok c.line.result _ _
-    (λ line made. written_line claims_form x value (string_bytes line) c.in_ok-to_json.ensures.written
+    (λ line made. written_line claims_form x value (string_bytes line)
+    c.in_ok-to_json.ensures.written
     c.in_ok-to_json.ensures.reads
     (made (subst (λ (d : Data). IsPlain 127 d) (sym c.in_ok-to_json.ensures.written) plain)))
     c.line.ensures

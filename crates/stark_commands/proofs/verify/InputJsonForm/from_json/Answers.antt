@@ -15,9 +15,15 @@ returns-in_err-member-3-clause-refuses c =
 pub returns-in_err-member-4-clause-refuses : goal.returns-in_err-member-4-clause-refuses
 returns-in_err-member-4-clause-refuses c =
     if_err_from _ _ c.in_err-member-4.field-0.0 c.from_residual-in_err-member-4.ensures.1
-    (inr (inr (c.in_ok-has_keys.ensures.keys, inr (inr (inr (inl c.in_err-member-4.ensures.refuses))))))
+    (inr (inr (
+      c.in_ok-has_keys.ensures.keys,
+      inr (inr (inr (inl c.in_err-member-4.ensures.refuses))),
+    )))
 
 pub returns-in_err-member-5-clause-refuses : goal.returns-in_err-member-5-clause-refuses
 returns-in_err-member-5-clause-refuses c =
     if_err_from _ _ c.in_err-member-5.field-0.0 c.from_residual-in_err-member-5.ensures.1
-    (inr (inr (c.in_ok-has_keys.ensures.keys, inr (inr (inr (inr (inl c.in_err-member-5.ensures.refuses)))))))
+    (inr (inr (
+      c.in_ok-has_keys.ensures.keys,
+      inr (inr (inr (inr (inl c.in_err-member-5.ensures.refuses)))),
+    )))
