@@ -97,7 +97,7 @@ module _ (old new : List ℕ) (needed : ℕ) where
   texts_unread statement proof (OfStatement failure) is written two =
       inl (unread_written statement_form statement (codes "statement") failure is written two)
   texts_unread statement proof (OfProof failure) is written two =
-      inr (unread_written proof_form proof (codes "proof") failure is written two)
+      inr (is.0, unread_written proof_form proof (codes "proof") failure is.1 written two)
 
   module _ {Given : Type 0} (form : Form Given) (text : List ℕ)
       (IsResult : Given → List ℕ → Type 0) (IsReason : Given → CommonReason → Type 0) where

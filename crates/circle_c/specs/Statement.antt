@@ -69,10 +69,14 @@ module _ (statement proof : List ℕ) where
     pub stated : IsTextOf statement_form statement (statement_of input)
     pub proved : IsTextOf proof_form proof input.proof
 
-  -- the text of the statement isn't read, or that of the proof
+  -- the one stands for a statement
+  abbrev pub IsStated : Type 0
+  IsStated = (stated : Statement) × IsTextOf statement_form statement stated
+
+  -- the text of the statement isn't read, or it stands for one and that of the proof isn't read
   abbrev pub IsUnread : Unread → Type 0
   IsUnread (OfStatement failure) = IsNotRead statement_form statement failure
-  IsUnread (OfProof failure) = IsNotRead proof_form proof failure
+  IsUnread (OfProof failure) = IsStated × IsNotRead proof_form proof failure
 
   -- they stand for an input that is so
   abbrev pub StandFor : (Input → Type 0) → Type 0
@@ -90,8 +94,9 @@ module _ (statement proof : List ℕ) where
         WritesReason reason_line (λ reason. StandFor (λ input. IsReason input reason)) old new
         needed
 
-    -- the line of one of the two was written, which is no JSON or stands for nothing
+    -- the line of one of the two was written, which is no JSON or stands for nothing; that of the
+    -- proof only where the other stands for a statement
     abbrev pub WritesUnreadText : Type 0
     WritesUnreadText =
         WritesUnread statement_form statement old new needed (unread_line (codes "statement"))
-        ⊎ WritesUnread proof_form proof old new needed (unread_line (codes "proof"))
+        ⊎ (IsStated × WritesUnread proof_form proof old new needed (unread_line (codes "proof")))

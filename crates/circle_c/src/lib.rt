@@ -34,7 +34,7 @@
 //! number of rows, parameters and public values, the other for its proof (`Statement.AreTextsOf`).
 //! It returns 0 only where the relation holds of that input, and 1 only for a reason to refuse it or
 //! want of memory. Status 2 says which of the texts can't be read, `{"text":"statement",..}` or
-//! `{"text":"proof",..}`, and why.
+//! `{"text":"proof",..}`, and why; it is the proof's only where the other stands for a statement.
 //!
 //! The calls whose names end in `_from` go on from a challenger of the caller's own, which
 //! `circle_challenger_observe` and `_observe_element` have absorb and `_sample` has draw. It is left

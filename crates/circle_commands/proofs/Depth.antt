@@ -1,5 +1,5 @@
--- How deep the JSON of claims and a proof nests.
-use Rattle.std.proofs.Common.{ℕ, zero, suc, ◌+◌, ◌≤◌, List, [], ◌∷◌, map, arith}
+-- How deep the JSON of claims and a proof nests, and that it has no float.
+use Rattle.std.proofs.Common.{◌≡◌, ℕ, zero, suc, ◌+◌, ◌≤◌, List, [], ◌∷◌, arith, false, refl}
 use Rattle.std.specs.Bool.{⊤}
 use Rattle.circle_json.specs.Coefficients.{coefficients_form, coefficients_written}
 use Rattle.circle_json.specs.Form.{Form, count_form, list_form}
@@ -16,32 +16,34 @@ use Rattle.circle_relation.specs.declared.proof.CircleCommitPhaseMultiStep.{Circ
 use Rattle.circle_relation.specs.declared.proof.CircleFriProof.{CircleFriProof}
 use Rattle.circle_relation.specs.declared.proof.CircleInputProof.{CircleInputProof}
 use Rattle.circle_relation.specs.declared.proof.CirclePcsProof.{CirclePcsProof}
-use Rattle.circle_commands.proofs.Texts.{items_within}
+use Rattle.circle_commands.proofs.Texts.{items_within, looser, neither}
 use Rattle.circle_commands.specs.Forms.{base_form, digest_form, digests_form, element_form}
+use Rattle.circle_commands.specs.Text.{IsPlain}
 use Rattle.circle_commands.specs.Verify.{claims_form, input_fields}
-use Rattle.serde_json.specs.Data.{Data, depth, items_depth, members_depth}
-use Rattle.serde_json.specs.View.{items_of}
+use Rattle.serde_json.specs.Data.{Data, members_depth}
+use Rattle.serde_json.specs.Written.{members_have_float}
 
--- what the form writes nests no deeper than this
+-- what the form writes nests no deeper than this, and has no float
 abbrev pub IsWithin : {T : Type 0} → Form T → ℕ → Type 0
-IsWithin {T} form n = (x : T) → depth (form.written x) ≤ n
+IsWithin {T} form n = (x : T) → IsPlain n (form.written x)
 
-module _ {T : Type 0} (written : T → Data) (n : ℕ) (within : (x : T) → depth (written x) ≤ n) where
-  coefficients_within : (xs : List T) → depth (coefficients_written written xs) ≤ n + 1
-  coefficients_within [] = omega arith
-  coefficients_within (x ∷ []) = let a = within x in omega arith
-  coefficients_within (x ∷ y ∷ ys) = let a = items_within written n within (x ∷ y ∷ ys) in
-      omega arith
+module _ {T : Type 0} (written : T → Data) (n : ℕ) (within : (x : T) → IsPlain n (written x)) where
+  coefficients_within : (xs : List T) → IsPlain (n + 1) (coefficients_written written xs)
+  coefficients_within [] = (omega arith, refl)
+  coefficients_within (x ∷ []) = looser n (n + 1) (written x) (omega arith) (within x)
+  coefficients_within (x ∷ y ∷ ys) =
+      let a = items_within written n within (x ∷ y ∷ ys) in
+      (omega (arith, a.0), a.1)
 
 module _ {T : Type 0} (form : Form T) (n : ℕ) (within : IsWithin form n) where
   pub list : IsWithin (list_form form) (n + 1)
-  list v = let a = items_within form.written n within v.items in omega arith
+  list v = let a = items_within form.written n within v.items in (omega (arith, a.0), a.1)
 
   coefficients : IsWithin (coefficients_form form) (n + 1)
   coefficients v = coefficients_within form.written n within v.items
 
   pub more : (m : ℕ) → n ≤ m → IsWithin form m
-  more m h x = let a = within x in omega arith
+  more m h x = looser n m (form.written x) h (within x)
 
 module _ {T : Type 0} where
   -- each part nests no deeper
@@ -50,19 +52,22 @@ module _ {T : Type 0} where
   AreWithin (field key part form others) n = IsWithin form n × AreWithin others n
 
   members_within : (fields : Fields T) (n : ℕ) → AreWithin fields n → (x : T) →
-      members_depth (members_written fields x) ≤ n
-  members_within none_left n h x = omega arith
-  members_within (field key part form others) n h x = let a = h.0 (part x) in let b = members_within
-      others n h.1 x in omega arith
+      (members_depth (members_written fields x) ≤ n)
+      × (members_have_float (members_written fields x) ≡ false)
+  members_within none_left n h x = (omega arith, refl)
+  members_within (field key part form others) n h x =
+      let a = h.0 (part x) in
+      let b = members_within others n h.1 x in
+      (omega (arith, a.0, b.0), neither _ _ a.1 b.1)
 
   pub object : (fields : Fields T) (n : ℕ) → AreWithin fields n → IsWithin
       (object_form fields) (n + 1)
-  object fields n h x = let a = members_within fields n h x in omega arith
+  object fields n h x = let a = members_within fields n h x in (omega (arith, a.0), a.1)
 
 pub count : IsWithin count_form 0
-count n = omega arith
+count n = (omega arith, refl)
 
-parameters_within : (n : ℕ) (p : FriParameters ⊤) → depth (parameters_written n p) ≤ 1
+parameters_within : (n : ℕ) (p : FriParameters ⊤) → IsPlain 1 (parameters_written n p)
 parameters_within zero p =
     object short_fields 0 (count, (count, (count, (count, (count, (count, tt)))))) p
 parameters_within (suc n) p =
@@ -189,14 +194,15 @@ module _ {F E I W Witness IC ID IP IE WC WD WP WE : Type 0} (base : Form F) (ele
         )
 
 pub base : IsWithin base_form 0
-base x = omega arith
+base x = (omega arith, refl)
 
 pub element : IsWithin element_form 1
-element x = let a = items_within count_written 0 (λ n. count n) (coefficient_residues x) in
-    omega arith
+element x =
+    let a = items_within count_written 0 (λ n. count n) (coefficient_residues x) in
+    (omega (arith, a.0), a.1)
 
 pub digest : IsWithin digest_form 0
-digest x = omega arith
+digest x = (omega arith, refl)
 
 pub claims : IsWithin claims_form 9
 claims =

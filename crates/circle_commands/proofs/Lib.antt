@@ -12,3 +12,4 @@ pub mod Rows
 pub mod Texts
 pub mod Unproved
 pub mod Verified
+pub mod Written

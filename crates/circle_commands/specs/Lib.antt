@@ -8,6 +8,7 @@ pub mod Failure
 pub mod Forms
 pub mod Input
 pub mod Json
+pub mod LineRows
 pub mod Named
 pub mod Preset
 pub mod Program

@@ -1,5 +1,6 @@
 -- What a run of the program reads and writes, and the status that it returns.
-use Rattle.std.specs.Prelude.{◌≡◌, ℕ, ◌⊎◌, List, Option, Result, Ok, Err, String, string_bytes}
+use Rattle.std.specs.Prelude.{◌≡◌, ℕ, ◌⊎◌, List, take, Option, Result, Ok, Err, String}
+use Rattle.std.specs.Prelude.{string_bytes}
 use Rattle.std.specs.Io.KnownBytes.{Appends, Consumes, IsAtEnd}
 use Rattle.std.specs.declared.alloc.Global.{Global}
 use Rattle.circle_commands.specs.Failure.{line_of, status_of}
@@ -20,15 +21,22 @@ abbrev pub answer_line : Answer → List ℕ
 answer_line (Ok line) = string_bytes line
 answer_line (Err failure) = line_of failure
 
--- the line was written and this status is returned, or writing failed and the status is 1
+-- a front of the line was written, which may be empty or whole
+abbrev pub AppendsFront : Option (List ℕ) → Option (List ℕ) → List ℕ → Type 0
+AppendsFront old new line = (n : ℕ) × Appends old new (take n line)
+
+-- the whole line was written and this status is returned, or writing failed: then a front of the
+-- line was written and the status is 1
 abbrev pub IsWritten : ℕ → List ℕ → Option (List ℕ) → Option (List ℕ) → ℕ → Type 0
-IsWritten due line old new status = ((status ≡ due) × Appends old new line) ⊎ (status ≡ 1)
+IsWritten due line old new status =
+    ((status ≡ due) × Appends old new line) ⊎ ((status ≡ 1) × AppendsFront old new line)
 
 -- so of the line and the status of an answer
 abbrev pub IsTold : Answer → Option (List ℕ) → Option (List ℕ) → ℕ → Type 0
 IsTold answer = IsWritten (answer_status answer) (answer_line answer)
 
--- reading failed, or memory was refused
+-- reading failed, or memory was refused; no contract says why, since those of readers and of
+-- allocations don't say when they fail
 abbrev pub IsUnread : Answer → Type 0
 IsUnread (Ok line) = ⊥
 IsUnread (Err Usage) = ⊥

@@ -1,9 +1,8 @@
 //! Reading parts of JSON, and writing it as a line.
-ghost use Rattle.std.specs.Prelude.{◌≤◌, IfErr, IfOk, MatchResult, string_bytes};
-ghost use Rattle.serde_json.specs.Data.{depth};
+ghost use Rattle.std.specs.Prelude.{IfErr, IfOk, MatchResult, string_bytes};
 ghost use Rattle.serde_json.specs.View.{view, items_view};
 ghost use Rattle.circle_commands.specs.Json.{HasItems, IsMissing, IsNoArray, IsPart, pair_form};
-ghost use Rattle.circle_commands.specs.Text.{IsJsonLine};
+ghost use Rattle.circle_commands.specs.Text.{IsJsonLine, IsPlain};
 
 use circle_field::Mersenne31;
 use circle_json::{JsonError, JsonForm};
@@ -14,7 +13,7 @@ use std::alloc::{AllocError, Global};
 ///
 /// Fails where memory is refused.
 pub fn line(alloc: Global, value: &Value) -> Result<String, AllocError>
-    ensures { IfOk result (λ line. depth (view value.now) ≤ 127
+    ensures { IfOk result (λ line. IsPlain 127 (view value.now)
         → IsJsonLine (view value.now) (string_bytes line)) }
 {
     let mut text = value.to_string(alloc)?;

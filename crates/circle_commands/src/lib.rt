@@ -11,11 +11,15 @@
 //!   of memory (`Answer.IsAnswer`). `command::answer_from` does so of a command that goes on from a
 //!   caller's challenger, [`CommandFrom`].
 //! - `run::run` reads its input to the end and writes the line that `answer` returns of it, with
-//!   its status, unless reading fails, an allocation is refused or writing fails (`values`, `prove`,
-//!   `verify`, `shape`, by `Program.HasRun`). It reads nothing where the arguments name no command
-//!   (`usage`, `unread`). The bytes are those that the contracts of the reader and the writer know.
+//!   its status, unless reading fails or an allocation is refused (`values`, `prove`, `verify`,
+//!   `shape`, by `Program.HasRun`). Where writing fails, it has written a front of the line that is
+//!   due and nothing else, and returns 1 (`Program.IsWritten`). It reads nothing where the arguments
+//!   name no command (`usage`, `unread`). The bytes are those that the contracts of the reader and
+//!   the writer know.
+//! - The line of a result is the compact text of one JSON value and a newline (`Text.IsJsonLine`,
+//!   `Text.IsLineOf`).
 //! - `Failure::line` is the line of each failure, with the refusal's name (`Failure.line_of`).
-//! - `values`: the line is a JSON text of the rows of `Input.values_of`; each refusal has its own
+//! - `values`: the line is the text of the rows of `Input.values_of`; each refusal has its own
 //!   condition (`Reasons.IsValueless`).
 //! - `prove`: the line is a text of claims and a proof of which `Proved.IsProved` holds, and which
 //!   `verify` accepts where each matrix has a point. Rows that don't fit are refused by the first
@@ -28,7 +32,7 @@
 //!   (`Unproved.IsUnprovedFrom`).
 //! - `commit`: the commitments are those to the input's batches (`Proved.AreCommitments`), which the
 //!   claims of `prove_from` have too.
-//! - `shape`: the line is a JSON text of `Shape.shape_written`: the numbers, the layout's label,
+//! - `shape`: the line is the text of `Shape.shape_written`: the numbers, the layout's label,
 //!   the seed's text and the number of steps of the input's shape.
 //!
 //! Its files:
@@ -39,8 +43,10 @@
 //!   contracts at the one choice of types, named once so that no clause quotes an `impl`; `Forms`,
 //!   how elements, digests and rows stand in JSON; `Named`, the names of refusals; `Failure`, lines
 //!   and statuses; `Text`, what bytes stand for; `Answer`, what a command makes of them; `Program`,
-//!   what a run reads and writes; `Arguments`, `Commitments`, `Json`, `Rows`.
-//! - In `proofs/`: what they need of lists, rows, batches, texts and of how deep JSON nests.
+//!   what a run reads and writes; `LineRows`, lines and fronts of them at worked examples;
+//!   `Arguments`, `Commitments`, `Json`, `Rows`.
+//! - In `proofs/`: what they need of lists, rows, batches, texts, of how deep JSON nests, and of
+//!   what a writer holds.
 #![tactic(auto)]
 
 pub mod command;

@@ -1,5 +1,6 @@
 //! The program as a function of its arguments, its input and its output.
-ghost use Rattle.std.specs.Prelude.{◌≡◌, ◌≤◌, ◌↔◌, Err, IfSome, IsSome, Ok};
+ghost use Rattle.std.specs.Io.KnownBytes.{Appends};
+ghost use Rattle.std.specs.Prelude.{◌≡◌, ◌≤◌, ◌↔◌, Err, IfSome, IsSome, Ok, length, take};
 ghost use Rattle.circle_commands.specs.Answer.{IsAnswer};
 ghost use Rattle.circle_commands.specs.Arguments.{Names, NamesCommand};
 ghost use Rattle.circle_commands.specs.Commands.{Answers, prove, shape, values, verify};
@@ -11,7 +12,7 @@ use crate::command::{Command, answer};
 use crate::failure::Failure;
 use crate::{prove, shape, values, verify};
 use std::alloc::Global;
-use std::io::{Read, Write};
+use std::io::{ErrorKind, Read, Write};
 
 /// The commands of the program.
 #[derive(Clone, Copy)]
@@ -45,8 +46,8 @@ impl CommandName {
 /// writes one line of JSON to `output`, and returns the exit status.
 ///
 /// The status is 0 where there is a result, 1 where the command refuses the input, an allocation is
-/// refused or writing fails, and 2 where the input can't be read. Of several faults the first
-/// counts: wrong arguments, in which case nothing is read, then a failure of `input`, then text that
+/// refused or writing fails, and 2 where the input can't be read. Where writing fails, only a front
+/// of the line is written. Of several faults the first counts: wrong arguments, in which case nothing is read, then a failure of `input`, then text that
 /// isn't JSON, then JSON that isn't an input of the command, then what the command refuses.
 pub fn run<R: Read, W: Write>(alloc: Global, args: &[String], input: &mut R, output: &mut W) -> u8
     ensures status { result ≤ 2 }
@@ -124,12 +125,38 @@ pub fn refuse<W: Write>(failure: &Failure, output: &mut W) -> u8
     write_line(output, failure.line().as_str().as_bytes(), failure.status())
 }
 
-/// Writes the whole line at once, and returns the status; it is 1 where that fails.
+/// Writes the line, and returns the status. It is 1 where writing fails, and then a front of the
+/// line is written and nothing else.
 pub fn write_line<W: Write>(output: &mut W, line: &[u8], status: u8) -> u8
     ensures { IsWritten status line.now (W.contents output.old) (W.contents output.new) result }
 {
-    if output.write_all(line).is_err() || output.flush().is_err() {
+    if write_front(output, line) < line.len() || output.flush().is_err() {
         return 1;
     }
     status
+}
+
+// Writes the bytes until a write fails, and returns how many of them are written. A write that takes
+// none fails, and one that is interrupted is tried again, as by `Write::write_all`.
+fn write_front<W: Write>(output: &mut W, bytes: &[u8]) -> usize
+    ensures within { result ≤ length bytes.now }
+    ensures front { Appends (W.contents output.old) (W.contents output.new)
+        (take result bytes.now) }
+{
+    let mut written = 0;
+    for _ in 0..u64::MAX {
+        if written == bytes.len() {
+            return written;
+        }
+        match output.write(&bytes[written..]) {
+            Ok(0) => return written,
+            Ok(more) => written += more,
+            Err(error) => {
+                if error.kind() != ErrorKind::Interrupted {
+                    return written;
+                }
+            }
+        }
+    }
+    written
 }

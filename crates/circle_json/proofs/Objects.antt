@@ -65,16 +65,17 @@ missing_key (string s) inside keys e lacks = absurd (cc)
 missing_key (array ds) inside keys e lacks = absurd (cc)
 missing_key (object ms) inside keys e lacks = inl (lacks, refl)
 
--- an object of more inside than keys
+-- an object of more inside than keys, each of which it has
 pub unknown_key : (value : Data) (inside : Members) (keys : List (List ℕ)) → as_object value
-    ≡ Some inside → length keys < members_len inside → RefusesKeys keys value UnknownKey
-unknown_key null inside keys e more = absurd (cc)
-unknown_key (boolean b) inside keys e more = absurd (cc)
-unknown_key (number n) inside keys e more = absurd (cc)
-unknown_key (string s) inside keys e more = absurd (cc)
-unknown_key (array ds) inside keys e more = absurd (cc)
-unknown_key (object ms) inside keys e more = let same : ms ≡ inside = cc in
-    inr (subst (λ (x : Members). length keys < members_len x) (sym same) more, refl)
+    ≡ Some inside → HasEach keys value → length keys < members_len inside →
+    RefusesKeys keys value UnknownKey
+unknown_key null inside keys e each more = absurd (cc)
+unknown_key (boolean b) inside keys e each more = absurd (cc)
+unknown_key (number n) inside keys e each more = absurd (cc)
+unknown_key (string s) inside keys e each more = absurd (cc)
+unknown_key (array ds) inside keys e each more = absurd (cc)
+unknown_key (object ms) inside keys e each more = let same : ms ≡ inside = cc in
+    inr (each, subst (λ (x : Members). length keys < members_len x) (sym same) more, refl)
 
 -- an object of no more inside than keys, each of which it has
 pub has_keys : (value : Data) (inside : Members) (keys : List (List ℕ)) → as_object value

@@ -2,10 +2,12 @@
 use Rattle.std.proofs.Common.{IfOk, Result, Ok, Err, ◌≡◌, ℕ, zero, suc, Option, Some, None, inl}
 use Rattle.std.proofs.Common.{inr, ⊎_elim, refl, sym, subst, ◌∙◌, arith, ap}
 use Rattle.std.specs.Bool.{⊤}
-use Rattle.circle_json.specs.Claims.{ReadsParameters, RefusesParameters, length_member}
+use Rattle.circle_json.specs.Claims.{ReadsLength, ReadsParameters, RefusesLength}
+use Rattle.circle_json.specs.Claims.{RefusesParameters, fields_at, length_member}
 use Rattle.circle_json.specs.Claims.{parameters_written, short_fields, whole_fields}
 use Rattle.circle_commit.specs.declared.params.FriParameters.{FriParameters}
-use Rattle.circle_json.specs.Objects.{RefusesFields, object_written}
+use Rattle.circle_json.specs.Objects.{HasKeys, ReadsFields, RefusesFields, keys_of}
+use Rattle.circle_json.specs.Objects.{object_written}
 use Rattle.circle_json.specs.declared.error.JsonError.{JsonError}
 use Rattle.serde_json.specs.Data.{Data}
 use Rattle.serde_json.specs.View.{view}
@@ -76,12 +78,32 @@ whole_refuses value error refused =
     (λ r. ⊎_elim (λ b. inr (inl b))
     (λ s. ⊎_elim (λ c. inr (inr (inl c))) (λ t. inr (inr (inr (inr t)))) s) r) refused
 
-case_refuses : (at : Option Data) (value : Data) (error : JsonError) →
-    RefusesFields short_fields value error → RefusesParameters at value error
-case_refuses None value error refused = inr (inr refused)
-case_refuses (Some _) value error refused = inr (inr (whole_refuses value error refused))
-
 -- one of the six numbers is refused
-pub number_refuses : (value : Data) (error : JsonError) → RefusesFields short_fields value error →
-    RefusesParameters (length_member value) value error
-number_refuses value error refused = case_refuses (length_member value) value error refused
+pub number_refuses : (at : Option Data) (value : Data) (error : JsonError) →
+    HasKeys (keys_of (fields_at at)) value → RefusesFields short_fields value error →
+    RefusesParameters at value error
+number_refuses None value error keys refused = inr (inr (keys, refused))
+number_refuses (Some _) value error keys refused =
+    inr (inr (keys, whole_refuses value error refused))
+
+-- or the length is
+pub length_refuses : (at : Option Data) (value : Data) (error : JsonError) →
+    length_member value ≡ at → HasKeys (keys_of (fields_at at)) value → RefusesLength at error →
+    RefusesParameters at value error
+length_refuses None value error is keys refused = absurd refused
+length_refuses (Some d) value error is keys refused =
+    inr (inr (keys, inr (inr (inr (inl (inr (d, is, refused)))))))
+
+-- the six numbers and the length are read
+pub numbers_read : (at : Option Data) (value : Data) (p : FriParameters ⊤) →
+    length_member value ≡ at → HasKeys (keys_of (fields_at at)) value →
+    ReadsFields short_fields value p → ReadsLength at p.log_final_poly_len →
+    ReadsParameters at value p
+numbers_read None value p is keys numbers length = ((keys.no_more, numbers), length)
+numbers_read (Some d) value p is keys numbers length = (
+  keys.no_more,
+  (
+    numbers.0,
+    (numbers.1.0, (numbers.1.1.0, ((d, is, length), numbers.1.1.1))),
+  ),
+)

@@ -71,14 +71,27 @@ whole_fields =
 abbrev pub length_member : Data → Option Data
 length_member value = get (codes "log_final_poly_len") value
 
+-- the members of the short object where the key is missing, else those of the whole one
+abbrev pub fields_at : Option Data → Fields (FriParameters ⊤)
+fields_at None = short_fields
+fields_at (Some _) = whole_fields
+
+-- the length that a member stands for, which is 0 where it is missing
+abbrev pub ReadsLength : Option Data → ℕ → Type 0
+ReadsLength None n = n ≡ 0
+ReadsLength (Some d) n = count_form.reads d n
+
+abbrev pub RefusesLength : Option Data → JsonError → Type 0
+RefusesLength None error = ⊥
+RefusesLength (Some d) error = count_form.refuses d error
+
 -- the short object where the key is missing, which means 0, else the whole one
 abbrev pub ReadsParameters : Option Data → Data → FriParameters ⊤ → Type 0
 ReadsParameters None value p = ReadsObject short_fields value p × (p.log_final_poly_len ≡ 0)
 ReadsParameters (Some _) value p = ReadsObject whole_fields value p
 
 abbrev pub RefusesParameters : Option Data → Data → JsonError → Type 0
-RefusesParameters None value error = RefusesObject short_fields value error
-RefusesParameters (Some _) value error = RefusesObject whole_fields value error
+RefusesParameters at value error = RefusesObject (fields_at at) value error
 
 -- the short object where the number is 0
 abbrev pub parameters_written : ℕ → FriParameters ⊤ → Data

@@ -10,3 +10,4 @@ pub mod Named
 pub mod Choices
 pub mod ChoiceForm
 pub mod Airs
+pub mod KeyRows

@@ -58,7 +58,7 @@ module _ {T : Type 0} where
   keys_refuse_none fields (array _) x error p r = absurd p.0
   keys_refuse_none fields (object ms) x error p r = ⊎_elim
       (λ h. absurd (fields_lack_none fields (object ms) x p.1 h.0))
-      (λ h. let few = p.0 in let many = h.0 in absurd (omega arith)) r
+      (λ h. let few = p.0 in let many = h.1 in absurd (omega arith)) r
 
   -- an object whose members have these keys, in ascending order, and stand for these parts
   abbrev pub object_form : Fields T → Form T
@@ -71,5 +71,5 @@ module _ {T : Type 0} where
     writes_same = λ x y same. ap object (members_alike fields x y same);
     refuses_others = λ value x error p r. ⊎_elim (λ h. h)
         (λ h. ⊎_elim (λ k. keys_refuse_none fields value x error p k)
-        (λ k. fields_refuse_others fields value x error p.1 k) h) r;
+        (λ k. fields_refuse_others fields value x error p.1 k.1) h) r;
   }

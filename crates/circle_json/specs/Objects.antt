@@ -38,7 +38,7 @@ abbrev pub Lacks : List (List ℕ) → Data → Type 0
 Lacks [] value = ⊥
 Lacks (key ∷ keys) value = (get key value ≡ None) ⊎ Lacks keys value
 
--- no object, or one that lacks a key, or one with further keys
+-- no object, or one that lacks a key, or one that has each of them and further ones
 abbrev pub RefusesKeys : List (List ℕ) → Data → JsonError → Type 0
 RefusesKeys keys null error = error ≡ WrongKind
 RefusesKeys keys (boolean _) error = error ≡ WrongKind
@@ -46,7 +46,7 @@ RefusesKeys keys (number _) error = error ≡ WrongKind
 RefusesKeys keys (string _) error = error ≡ WrongKind
 RefusesKeys keys (array _) error = error ≡ WrongKind
 RefusesKeys keys (object ms) error = (Lacks keys (object ms) × (error ≡ MissingKey))
-    ⊎ ((length keys < members_len ms) × (error ≡ UnknownKey))
+    ⊎ (HasEach keys (object ms) × (length keys < members_len ms) × (error ≡ UnknownKey))
 
 -- the object has exactly these keys
 pub record HasKeys (keys : List (List ℕ)) (value : Data) : Type 0 where
@@ -93,7 +93,8 @@ module _ {T : Type 0} where
   ReadsObject fields value x =
       HasAtMost (length (keys_of fields)) value × ReadsFields fields value x
 
-  -- by its keys, by one of its members, or for want of memory
+  -- by its keys, by one of its members where it has exactly these keys, or for want of memory
   abbrev pub RefusesObject : Fields T → Data → JsonError → Type 0
   RefusesObject fields value error = (error ≡ Memory)
-      ⊎ (RefusesKeys (keys_of fields) value error ⊎ RefusesFields fields value error)
+      ⊎ (RefusesKeys (keys_of fields) value error
+      ⊎ (HasKeys (keys_of fields) value × RefusesFields fields value error))

@@ -1,9 +1,10 @@
 //! Batches' openings, claims and parameters, read from JSON and written as JSON.
-ghost use Rattle.std.specs.Prelude.{◌≡◌, IfOk};
+ghost use Rattle.std.specs.Prelude.{◌≡◌, IfErr, IfOk};
 ghost use Rattle.serde_json.specs.View.{view};
 ghost use Rattle.circle_json.specs.ObjectForm.{object_form};
-ghost use Rattle.circle_json.specs.Objects.{object_written};
-ghost use Rattle.circle_json.specs.Claims.{batch_fields, matrix_fields, opening_fields};
+ghost use Rattle.circle_json.specs.Objects.{HasKeys, RefusesKeys, keys_of, object_written};
+ghost use Rattle.circle_json.specs.Claims.{ReadsLength, RefusesLength, batch_fields, fields_at};
+ghost use Rattle.circle_json.specs.Claims.{length_member, matrix_fields, opening_fields};
 ghost use Rattle.circle_json.specs.Claims.{parameters_form, point_fields, short_fields};
 ghost use Rattle.circle_json.specs.Claims.{whole_fields};
 
@@ -129,6 +130,52 @@ fn whole_object(parameters: &FriParameters<()>, alloc: Global) -> Result<Value, 
     })
 }
 
+// Tests that a JSON value is an object with exactly the keys of parameters, where that of the final
+// polynomial's length may be missing.
+fn has_parameter_keys(value: &Value) -> Result<(), JsonError>
+    ensures keys { IfOk result (λ _.
+        HasKeys (keys_of (fields_at (length_member (view value.now)))) (view value.now)) }
+    ensures refuses { IfErr result (λ error.
+        RefusesKeys (keys_of (fields_at (length_member (view value.now)))) (view value.now) error) }
+{
+    if value.get("log_final_poly_len").is_none() {
+        return has_keys(
+            value,
+            &[
+                "batch_pow_bits",
+                "commit_pow_bits",
+                "log_blowup",
+                "max_log_arity",
+                "num_queries",
+                "query_pow_bits",
+            ],
+        );
+    }
+    has_keys(
+        value,
+        &[
+            "batch_pow_bits",
+            "commit_pow_bits",
+            "log_blowup",
+            "log_final_poly_len",
+            "max_log_arity",
+            "num_queries",
+            "query_pow_bits",
+        ],
+    )
+}
+
+// The final polynomial's length, which is 0 where its key is missing.
+fn final_length(alloc: Global, value: &Value) -> Result<usize, JsonError>
+    ensures reads { IfOk result (ReadsLength (length_member (view value.now))) }
+    ensures refuses { IfErr result (RefusesLength (length_member (view value.now))) }
+{
+    match value.get("log_final_poly_len") {
+        Some(length) => usize::from_json(alloc, length),
+        None => Ok(0),
+    }
+}
+
 /// An object of the seven numbers, each under its name, where the bits of proof of work are short
 /// for its difficulty.
 ///
@@ -144,37 +191,10 @@ impl JsonForm for FriParameters<()> {
     }
 
     fn from_json(alloc: Global, value: &Value) -> Result<Self, JsonError> {
-        let log_final_poly_len = if value.get("log_final_poly_len").is_none() {
-            has_keys(
-                value,
-                &[
-                    "batch_pow_bits",
-                    "commit_pow_bits",
-                    "log_blowup",
-                    "max_log_arity",
-                    "num_queries",
-                    "query_pow_bits",
-                ],
-            )?;
-            0
-        } else {
-            has_keys(
-                value,
-                &[
-                    "batch_pow_bits",
-                    "commit_pow_bits",
-                    "log_blowup",
-                    "log_final_poly_len",
-                    "max_log_arity",
-                    "num_queries",
-                    "query_pow_bits",
-                ],
-            )?;
-            member(alloc, value, "log_final_poly_len")?
-        };
+        has_parameter_keys(value)?;
         Ok(FriParameters {
             log_blowup: member(alloc, value, "log_blowup")?,
-            log_final_poly_len,
+            log_final_poly_len: final_length(alloc, value)?,
             max_log_arity: member(alloc, value, "max_log_arity")?,
             num_queries: member(alloc, value, "num_queries")?,
             batch_proof_of_work_bits: member(alloc, value, "batch_pow_bits")?,

@@ -5,7 +5,8 @@
 //! elsewhere, one of a list fails only as one of its items does or for want of memory, and what
 //! `to_json` wrote stands for the value that it was written of and for no other. `specs/Form` has
 //! what a form is and its laws, `specs/Values` the forms of numbers, elements, digests and lists,
-//! `specs/ObjectForm` that of an object with exactly the members of a list of fields, and
+//! `specs/ObjectForm` that of an object with exactly the members of a list of fields (which is
+//! refused for a missing key before a further one, and for a member only where it has its keys), and
 //! `specs/Coefficients` that of a list of which one item stands for itself, told from a list by
 //! `FlatForm`.
 //!
@@ -20,7 +21,8 @@
 //! - In `src/`, `form.rt`: the trait. `object.rt`: keys and members of an object, read and written.
 //!   `claims.rt`, `proof.rt`, `airs.rt`: records.
 //! - In `specs/`, `Form`, `FormFacts`: what a form is, with its laws. `Values`: numbers, elements,
-//!   digests and lists. `Objects`, `ObjectForm`: objects of a list of fields. `Coefficients`: a
+//!   digests and lists. `Objects`, `ObjectForm`, `KeyRows`: objects of a list of fields, and which
+//!   fault of their keys is reported, at worked examples. `Coefficients`: a
 //!   list of which one item stands for itself. `Choices`, `ChoiceForm`: objects of one member, whose
 //!   key says what it is. `Claims`, `Proof`, `Airs`: the keys of records. `Named`: the names of
 //!   refusals.

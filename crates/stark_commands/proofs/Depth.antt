@@ -1,5 +1,5 @@
--- How deep the JSON of a claim nests.
-use Rattle.std.proofs.Common.{arith}
+-- How deep the JSON of a claim nests, and that it has no float.
+use Rattle.std.proofs.Common.{arith, refl}
 use Rattle.circle_air.specs.declared.node.Node.TheVariants.{Local, Next, Periodic, Public}
 use Rattle.circle_air.specs.declared.node.Node.TheVariants.{Constant, Add, Sub, Mul, Neg}
 use Rattle.circle_commands.proofs.Depth.{IsWithin, base, count, digest, element, list, more}
@@ -15,18 +15,18 @@ use Rattle.stark_commands.specs.Forms.{air_form}
 use Rattle.stark_commands.specs.Verify.{claim_form, input_fields}
 
 node : IsWithin (node_form base_form) 2
-node (Local c) = omega arith
-node (Next c) = omega arith
-node (Periodic i) = omega arith
-node (Public i) = omega arith
-node (Constant x) = omega arith
-node (Add a b) = omega arith
-node (Sub a b) = omega arith
-node (Mul a b) = omega arith
-node (Neg a) = omega arith
+node (Local c) = (omega arith, refl)
+node (Next c) = (omega arith, refl)
+node (Periodic i) = (omega arith, refl)
+node (Public i) = (omega arith, refl)
+node (Constant x) = (omega arith, refl)
+node (Add a b) = (omega arith, refl)
+node (Sub a b) = (omega arith, refl)
+node (Mul a b) = (omega arith, refl)
+node (Neg a) = (omega arith, refl)
 
 place : IsWithin place_form 0
-place p = omega arith
+place p = (omega arith, refl)
 
 air : IsWithin air_form 4
 air =

@@ -114,13 +114,26 @@ whole_fields =
     (field (codes "rows") (λ i. i.rows) rows_form
     none_left)))
 
+-- the members of the input, without the parameters where their key is missing
+abbrev pub fields_at : Option Data → Fields Input
+fields_at None = short_fields
+fields_at (Some _) = whole_fields
+
+-- the parameters that a member stands for, which are missing where it is
+abbrev pub ReadsParams : Option Data → Option (FriParameters ⊤) → Type 0
+ReadsParams None params = params ≡ None
+ReadsParams (Some d) params = (some_form parameters_form).reads d params
+
+abbrev pub RefusesParams : Option Data → JsonError → Type 0
+RefusesParams None error = ⊥
+RefusesParams (Some d) error = parameters_form.refuses d error
+
 abbrev pub ReadsInput : Option Data → Data → Input → Type 0
 ReadsInput None value input = ReadsObject short_fields value input × (input.params ≡ None)
 ReadsInput (Some _) value input = ReadsObject whole_fields value input
 
 abbrev pub RefusesInput : Option Data → Data → JsonError → Type 0
-RefusesInput None value error = RefusesObject short_fields value error
-RefusesInput (Some _) value error = RefusesObject whole_fields value error
+RefusesInput at value error = RefusesObject (fields_at at) value error
 
 abbrev pub input_written : Option (FriParameters ⊤) → Input → Data
 input_written None input = object_written short_fields input

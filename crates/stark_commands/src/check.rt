@@ -1,9 +1,12 @@
 //! The command `check`: whether the rows of a trace satisfy an AIR.
-ghost use Rattle.std.specs.Prelude.{◌≡◌, ◌≤◌, ◌⊎◌, ◌↔◌, All, IfErr, IsTrue, MatchResult, OnOk};
-ghost use Rattle.std.specs.Prelude.{length, vec_len};
+ghost use Rattle.std.specs.Prelude.{◌≡◌, ◌≤◌, ◌⊎◌, ◌↔◌, All, IfErr, IfOk, IsTrue, MatchResult};
+ghost use Rattle.std.specs.Prelude.{OnOk, length, vec_len};
+ghost use Rattle.serde_json.specs.View.{view};
 ghost use Rattle.circle_air.specs.Air.{air_of};
 ghost use Rattle.circle_commands.specs.Rows.{lists, row_length};
+ghost use Rattle.circle_json.specs.Objects.{HasKeys, RefusesKeys, keys_of};
 ghost use Rattle.stark_commands.specs.Check.{IsFitting, IsRefused, IsSatisfied, IsUnsatisfied};
+ghost use Rattle.stark_commands.specs.Check.{ReadsParams, RefusesParams, fields_at, params_member};
 ghost use Rattle.stark_commands.specs.Named.{check_name};
 ghost use Rattle.stark_commands.specs.declared.check.Refusal.TheVariants.{Memory};
 
@@ -14,7 +17,7 @@ use circle_air::{Air, AirError, AirParts, Violation, check_constraints};
 use circle_commands::values::{is_rectangular, matrix};
 use circle_commit::{FriParameters, is_power_of_two};
 use circle_field::Mersenne31;
-use circle_json::{JsonError, has_keys, member};
+use circle_json::{JsonError, JsonForm, has_keys, member};
 use serde_json::Value;
 use std::alloc::{AllocError, Global};
 
@@ -98,6 +101,31 @@ impl From<AirError> for Refusal {
     }
 }
 
+// Tests that a JSON value is an object with exactly the keys of an input, where that of the
+// parameters may be missing.
+fn has_input_keys(value: &Value) -> Result<(), JsonError>
+    ensures keys { IfOk result (λ _.
+        HasKeys (keys_of (fields_at (params_member (view value.now)))) (view value.now)) }
+    ensures refuses { IfErr result (λ error.
+        RefusesKeys (keys_of (fields_at (params_member (view value.now)))) (view value.now) error) }
+{
+    if value.get("params").is_none() {
+        return has_keys(value, &["air", "public_values", "rows"]);
+    }
+    has_keys(value, &["air", "params", "public_values", "rows"])
+}
+
+// The parameters, if their key is there.
+fn given_params(alloc: Global, value: &Value) -> Result<Option<FriParameters<()>>, JsonError>
+    ensures reads { IfOk result (ReadsParams (params_member (view value.now))) }
+    ensures refuses { IfErr result (RefusesParams (params_member (view value.now))) }
+{
+    match value.get("params") {
+        Some(params) => Ok(Some(<FriParameters<()> as JsonForm>::from_json(alloc, params)?)),
+        None => Ok(None),
+    }
+}
+
 /// An object of the `air`, the `public_values` and the `rows`; `params` may stand there too.
 impl Command for Input {
     ghost use Rattle.std.specs.Prelude.{◌≡◌};
@@ -111,16 +139,10 @@ impl Command for Input {
     ghost is_reason = { IsCheckReason };
 
     fn read(alloc: Global, value: &Value) -> Result<Input, JsonError> {
-        let params = if value.get("params").is_none() {
-            has_keys(value, &["air", "public_values", "rows"])?;
-            None
-        } else {
-            has_keys(value, &["air", "params", "public_values", "rows"])?;
-            Some(member(alloc, value, "params")?)
-        };
+        has_input_keys(value)?;
         Ok(Input {
             air: member(alloc, value, "air")?,
-            params,
+            params: given_params(alloc, value)?,
             public_values: member(alloc, value, "public_values")?,
             rows: member(alloc, value, "rows")?,
         })

@@ -12,8 +12,9 @@
 //!   refuses for the named error, where there is the named reason to refuse the input, or when out
 //!   of memory (`Answer.IsAnswer`).
 //! - `run::run` reads its input to the end and writes the line that `answer` returns of it, with
-//!   its status, unless reading fails, an allocation is refused or writing fails (`check`, `prove`,
-//!   `verify`, by `Program.HasRun`). It reads nothing where the arguments name no command (`usage`,
+//!   its status, unless reading fails or an allocation is refused (`check`, `prove`, `verify`, by
+//!   `Program.HasRun`). Where writing fails, it has written a front of the line that is due and
+//!   nothing else, and returns 1. It reads nothing where the arguments name no command (`usage`,
 //!   `unread`).
 //! - `check`: the line is `{"satisfied":true}`, only where the AIR is accepted and the rows satisfy
 //!   it (`Check.IsSatisfied`). Each refusal has its own condition, and `Unsatisfied` names the

@@ -4,7 +4,7 @@ use crate::streams::{FailingFlush, FailingWriter};
 use circle_commands::run::run;
 use std::alloc::{AllocError, Global};
 use std::fmt::InlineText;
-use std::io::Write;
+use std::io::{ErrorKind, Write};
 use std::test::Fail;
 
 /// What the program wrote, and its status.
@@ -71,20 +71,55 @@ fn expect_status<W: Write>(
     Err(unexpected(status, input))
 }
 
-/// Expects the status of a line of this many bytes, with its end, over a writer that takes no more,
-/// and the status 1 over each that takes fewer and over one that can't flush.
+// Runs a command on the input over this writer, and expects the status and what was taken.
+fn expect_taken(
+    alloc: Global,
+    case: (&str, &str),
+    mut output: FailingWriter,
+    taken: &[u8],
+    want: u8,
+) -> Result<(), Fail> {
+    expect_status(alloc, case, &mut output, want)?;
+    if output.taken.as_slice() == taken {
+        return Ok(());
+    }
+    let text = std::str::from_utf8(&output.taken).unwrap_or("not UTF-8");
+    Err(unexpected(want, text))
+}
+
+// Expects the front of the line and the status 1 over a writer that takes fewer bytes than the line
+// has, for each number of them. Every other one fails after them, and the others take none.
+fn expect_fronts(alloc: Global, case: (&str, &str), line: &[u8]) -> Result<(), Fail> {
+    for room in 0..line.len() {
+        let kind = (room % 2 == 0).then_some(ErrorKind::BrokenPipe);
+        let output = FailingWriter::new(alloc, room, kind);
+        expect_taken(alloc, case, output, &line[..room], 1)?;
+    }
+    Ok(())
+}
+
+/// Expects the status of a line of this many bytes, with its end, over a writer that takes no more
+/// and over one that is interrupted before each byte, the status 1 and a front of the line over each
+/// that takes fewer, and the status 1 over one that can't flush.
 pub fn expect_written_whole(
     alloc: Global,
     case: (&str, &str),
     (len, status): (usize, u8),
 ) -> Result<(), Fail> {
-    for room in 0..len {
-        expect_status(alloc, case, &mut FailingWriter { room }, 1)?;
+    let (command, input) = case;
+    let line = answer_of(alloc, command, input.as_bytes())?.written;
+    if line.len() != len {
+        return Err(unexpected(status, "a line of another length"));
     }
-    let mut output = FailingWriter { room: len };
-    expect_status(alloc, case, &mut output, status)?;
-    if output.room != 0 {
-        return Err(unexpected(status, "a shorter line"));
-    }
+    expect_fronts(alloc, case, &line)?;
+    let whole = FailingWriter::new(alloc, len, Some(ErrorKind::BrokenPipe));
+    expect_taken(alloc, case, whole, &line, status)?;
+    expect_taken(
+        alloc,
+        case,
+        FailingWriter::interrupted(alloc, len),
+        &line,
+        status,
+    )?;
     expect_status(alloc, case, &mut FailingFlush, 1)
 }

@@ -16,6 +16,8 @@ returns-then-len-keys-clause-refuses c =
     let count : c.len.result ≡ members_len (members_view c.in_ok-members.members.now.entries) =
     c.len.ensures.len ∙ sym (members_len-view c.in_ok-members.members.now.entries) in
     unknown_key (view c.args.value.now) _ (texts c.args.keys.now) c.in_ok-members.ensures
+    (has_each (view c.args.value.now) c.args.keys.now
+    (c.has_each.ensures.0 c.if-not-has_each.false))
     (subst (λ (n : ℕ). n < members_len (members_view c.in_ok-members.members.now.entries))
     (sym (length-texts c.args.keys.now))
     (subst (λ (n : ℕ). length c.args.keys.now < n) count c.if-len-keys.true))

@@ -1,23 +1,20 @@
-use Rattle.std.proofs.Common.{◌≤◌, ap, arith}
-use Rattle.serde_json.specs.Data.{depth}
+use Rattle.std.proofs.Common.{arith, string_bytes, subst, sym}
+use Rattle.serde_json.specs.Data.{Data}
 use Rattle.serde_json.specs.View.{view}
-use Rattle.circle_commands.proofs.Texts.{if-ok}
+use Rattle.circle_commands.proofs.Texts.{if-ok, looser, written_line}
+use Rattle.circle_commands.specs.Text.{IsPlain}
 use Rattle.stark_commands.proofs.Depth.{claim}
 use Rattle.stark_commands.specs.Verify.{claim_form}
 use Rattle.stark_commands.proofs.prove.claim_line.Goals as goal
 
 pub returns : goal.returns
 returns c =
-    let deep : depth (claim_form.written c.args.claim.now) ≤ 10 = claim c.args.claim.now in
-    let same = ap depth c.in_ok-to_json.ensures.written in
+    let x = c.args.claim.now in
+    let value = view c.in_ok-to_json.field-0 in
+    let plain = looser 10 127 (claim_form.written x) (omega arith) (claim x) in
     if-ok c.line.result _ _
-    (λ line made. let is = made (omega (arith, deep, same)) in record {
-      text = is.text;
-      ends = is.ends;
-      stands =
-          record {
-            value = view c.in_ok-to_json.field-0;
-            json = is.json;
-            reads = c.in_ok-to_json.ensures.reads;
-          };
-    }) c.line.ensures
+    (λ line made. written_line claim_form x value (string_bytes line)
+    c.in_ok-to_json.ensures.written
+    c.in_ok-to_json.ensures.reads
+    (made (subst (λ (d : Data). IsPlain 127 d) (sym c.in_ok-to_json.ensures.written) plain)))
+    c.line.ensures

@@ -1,8 +1,7 @@
-use Rattle.std.proofs.Common.{ap, arith, string_bytes, subst}
-use Rattle.serde_json.specs.Data.{Data, depth}
-use Rattle.circle_json.specs.Values.{digest_written}
-use Rattle.circle_commands.specs.Text.{IsJsonLine}
-use Rattle.circle_commands.proofs.Texts.{items_within}
+use Rattle.std.proofs.Common.{string_bytes, subst, sym}
+use Rattle.serde_json.specs.Data.{Data}
+use Rattle.circle_commands.specs.Text.{IsJsonLine, IsPlain}
+use Rattle.circle_commands.proofs.Texts.{commitments_within}
 use Rattle.circle_commands.proofs.commit.InputCommand.line.Goals as goal
 
 pub returns-clause-result : goal.returns-clause-result
@@ -14,9 +13,7 @@ returns-clause-result c =
       written =
           subst (λ (d : Data). IsJsonLine d (string_bytes c.in_ok-line.field-0))
           c.in_ok-shown.ensures
-          (c.in_ok-line.ensures (
-          let deep = ap depth c.in_ok-shown.ensures in
-          let within = items_within digest_written 0 (λ root. omega arith) commitments in
-          omega arith
-          ));
+          (c.in_ok-line.ensures
+          (subst (λ (d : Data). IsPlain 127 d) (sym c.in_ok-shown.ensures)
+          (commitments_within commitments)));
     }

@@ -1,9 +1,9 @@
-use Rattle.std.proofs.Common.{◌≡◌, ◌∙◌, ap, subst, arith, string_bytes}
-use Rattle.serde_json.specs.Data.{Data, depth}
+use Rattle.std.proofs.Common.{◌≡◌, ◌∙◌, ap, subst, sym, string_bytes}
+use Rattle.serde_json.specs.Data.{Data}
 use Rattle.serde_json.specs.View.{view}
 use Rattle.circle_commands.specs.Input.{values_of}
 use Rattle.circle_commands.specs.Json.{rows_written}
-use Rattle.circle_commands.specs.Text.{IsJsonLine}
+use Rattle.circle_commands.specs.Text.{IsJsonLine, IsPlain}
 use Rattle.circle_commands.proofs.Texts.{rows_within}
 use Rattle.circle_commands.proofs.values.InputCommand.line.Goals as goal
 
@@ -13,5 +13,4 @@ returns-clause-result c =
     let same : view c.in_ok-shown.field-0 ≡ rows_written rows = c.in_ok-shown.ensures
     ∙ ap rows_written c.in_ok-values.ensures.rows in
     subst (λ (d : Data). IsJsonLine d (string_bytes c.in_ok-line.field-0)) same
-    (c.in_ok-line.ensures (let deep = ap depth same in let within = rows_within rows in
-    omega arith))
+    (c.in_ok-line.ensures (subst (λ (d : Data). IsPlain 127 d) (sym same) (rows_within rows)))
