@@ -25,7 +25,8 @@ returns-in-Ok g c =
     let kk = c.args.log_num_chunks in
     let column = c.args.column.now.items in
     let same = ap columns_of c.from_ref-columns.ensures.value in
-    let table : IsPeriodicTable k gen two n (n + kk) (gen (n + kk + 1)) (column ∷ []) c.in-Ok.table =
+    let s = gen (n + kk + 1) in
+    let table : IsPeriodicTable k gen two n (n + kk) s (column ∷ []) c.in-Ok.table =
     standard-table c.standard-trace_domain.result c.standard-quotient_domain.result n kk
     c.standard-trace_domain.ensures.size c.standard-quotient_domain.ensures.size
     c.standard-quotient_domain.ensures.shift
