@@ -7,28 +7,42 @@ use Rattle.std.proofs.Common.{zero, suc, sym, ◌∙◌, ap, refl, subst, arith,
 use Rattle.std.proofs.lemmas.List.{get_or-map, get_or-replicate, get_or-take, length-map}
 use Rattle.std.proofs.lemmas.List.{length-take-le}
 use Rattle.std.proofs.lemmas.List.Elements.{All-cons, All-nil}
+use Rattle.std.proofs.lemmas.Bool.{le-ltb}
 use Rattle.std.proofs.lemmas.Nat.{pow_pos}
+use lib.Pow.{pow_mono}
 use Rattle.std.proofs.lemmas.Option.{slice_get-get_or}
 use Rattle.circle_commit.specs.Honest.{IsHonest, requested_points}
+use Rattle.circle_commit.specs.RowMajorMatrix.{height_of}
 use Rattle.circle_commit.specs.declared.matrix.RowMajorMatrix.{RowMajorMatrix}
 use Rattle.circle_commit.specs.declared.params.FriParameters.{FriParameters}
 use Rattle.circle_commit.specs.declared.pcs.OpeningRequest.{OpeningRequest}
 use Rattle.circle_domain.specs.Domain.{IsGenuineDomain, IsStandardOf, log_size, shift_of}
 use Rattle.circle_domain.specs.Order.{IsGenuine, natural_order}
-use Rattle.circle_domain.specs.Selectors.{IsFinite}
+use Rattle.circle_domain.specs.Selectors.{IsFinite, next_from}
 use Rattle.circle_domain.specs.declared.domain.CircleDomain.{CircleDomain}
 use Rattle.circle_domain.proofs.Inversion.{first-genuine}
 use Rattle.circle_domain.proofs.PartLists.{length-natural_order}
 use Rattle.circle_domain.proofs.StandardDomain.{standard-genuine}
-use Rattle.circle_domain.proofs.Walking.{standard-at, standard-doublings}
-use Rattle.circle_field.specs.Circle.{AreGenerators, Coordinates, origin, plus, times}
-use Rattle.circle_field.specs.Field.{FieldLaws, FieldOps}
+use Rattle.circle_domain.proofs.Walking.{coordinate-finite, standard-at, standard-doublings}
+use Rattle.circle_field.specs.Circle.{AreGenerators, Coordinates, IsOnCircle, lifted, origin, plus}
+use Rattle.circle_field.specs.Circle.{times}
+use Rattle.circle_field.specs.CircleGroup.{lifted-on_circle, plus-on_circle}
+use Rattle.circle_field.specs.Field.{FieldLaws, FieldOps, IsEmbedding}
 use Rattle.circle_field.specs.declared.field.Operations.{Ghosts}
+use Rattle.circle_point.specs.Projective.{from_line, to_line}
+use Rattle.circle_point.proofs.Selectors.{not_infinite}
+use Rattle.circle_quotient.specs.Fit.{IsFit}
+use Rattle.circle_quotient.proofs.FitPoints.{finite-on_circle}
 use Rattle.circle_relation.specs.Accepts.{Fields}
+use Rattle.circle_prover.specs.Requesting.{height_tests}
+use Rattle.circle_prover.proofs.CommittedHeights.{height_fits}
+use Rattle.circle_relation.proofs.Answering.{answer-none, skipped}
+use Rattle.circle_relation.proofs.Passed.{front_passes}
 use Rattle.circle_relation.specs.TestsInOrder.{Test, answer}
 use Rattle.circle_relation.specs.declared.error.ProverError.{ProverError}
 use Rattle.circle_relation.specs.declared.error.ProverError.TheVariants.{Memory}
-use Rattle.p3_circle.specs.Committing.{IsExtendable, RefusesInOrder}
+use Rattle.p3_circle.specs.Committing.{AreExtensions, IsExtendable, RefusesInOrder}
+use Rattle.p3_circle.specs.Committing.{target_tests_at}
 use Rattle.p3_circle.specs.Scheme.{IsCommitted}
 use Rattle.p3_circle.specs.SchemeLaws.HonestTests.{CanBeAskedAt, IsAskedBatch, IsKeptToAsk}
 use Rattle.circle_stark.specs.Honest.{AreChunksCommitted, IsTraceCommitted}
@@ -213,3 +227,37 @@ only-memory tests result e ok is refused =
     subst (λ r. IfErr r (λ f. f ≡ Memory)) is
     (subst (λ a. MatchResult a (λ (u : Unit {0}). IfErr result (λ f. f ≡ Memory))
     (λ first. result ≡ Err first)) ok refused)
+
+-- the point after one that can be opened is finite
+pub next-finite : {F E : Type 0} {k : FieldOps F} {l : FieldOps E} {m : F → E} (laws : FieldLaws l)
+    (embedding : IsEmbedding k l m) {gen : ℕ → Coordinates F} {bits : ℕ}
+    (gens : AreGenerators k bits gen) (n : ℕ) → n ≤ bits → (t : E) → IsFit l m gen n t →
+    IsFinite l (to_line l (next_from l m gen n t))
+next-finite {l = l} {m = m} laws embedding {gen = gen} gens n fits t fit =
+    let q = next_from l m gen n t in
+    let on : IsOnCircle l q =
+    plus-on_circle laws.ring (from_line l t) (lifted m (gen n))
+    (finite-on_circle laws t fit.finite) (lifted-on_circle embedding (gen n) (gens.on_circle n fits))
+    in
+    coordinate-finite laws q on (not_infinite laws q on fit.has_next)
+
+-- what was kept of a trace of 2^n rows passes the tests of a larger domain
+pub target-passes : {F M : Type 0} {g : Ghosts F} (k : FieldOps F) (gen : ℕ → Coordinates F)
+    (two : ℕ) (p : FriParameters M) (n m : ℕ) → p.log_final_poly_len + 2 ≤ n →
+    n + p.log_blowup < two → n ≤ m → (domain : CircleDomain F g) (given : RowMajorMatrix F) →
+    IsStandardOf gen n domain → (matrices : List (RowMajorMatrix F)) →
+    AreExtensions k gen p.log_blowup ((domain, given) ∷ []) matrices →
+    answer (target_tests_at two p matrices 0 m) (tt {0}) ≡ Ok (tt {0})
+target-passes k gen two p n m foldable extended larger domain given standard [] made = absurd made
+target-passes k gen two p n m foldable extended larger domain given standard (kept ∷ []) made =
+    let tall : height_of kept ≡ 2 ^ (n + p.log_blowup) =
+    made.0.height ∙ ap (λ i. 2 ^ (i + p.log_blowup)) standard.0 in
+    let within : 2 ^ (n + p.log_blowup) ≤ 2 ^ (m + p.log_blowup) = pow_mono (omega (arith, larger)) in
+    front_passes (height_tests two p (height_of kept)) _ (tt {0}) (tt {0}) (tt {0})
+    (height_fits two p (height_of kept) (n + p.log_blowup) (sym tall) (omega (arith, foldable))
+    extended)
+    ∙ skipped _ _ (tt {0})
+    (le-ltb (2 ^ (m + p.log_blowup)) (height_of kept) (omega (arith, tall, within)))
+    ∙ answer-none (tt {0})
+target-passes k gen two p n m foldable extended larger domain given standard
+    (kept ∷ other ∷ rest) made = absurd made.1

@@ -8,6 +8,7 @@ use Rattle.circle_air.specs.Degrees.{IsLogOfChunks, degree_of_parts}
 use Rattle.circle_codewords.specs.Requests.{log_of}
 use Rattle.circle_codewords.proofs.Logs.{log_of-power}
 use Rattle.circle_commit.specs.declared.params.FriParameters.{FriParameters}
+use Rattle.circle_prover.specs.Requesting.{is_unfit}
 use Rattle.circle_relation.specs.TestsInOrder.{Test, answer}
 use Rattle.circle_relation.proofs.Answering.{answer-none, passing, skipped}
 use Rattle.circle_stark.specs.Provable.{IsProvable}
@@ -58,6 +59,17 @@ sized two_adicity params k s width height shape log passed =
     provable {Opening = Unit {0}} two_adicity params k s log
     (skipped _ _ (tt {0}) shape.counts ∙ skipped _ _ (tt {0}) first.0
     ∙ skipped _ _ (tt {0}) second.0 ∙ skipped _ _ (tt {0}) third.0 ∙ answer-none (tt {0}))
+
+-- and the parameters are supported
+pub supported : {F M : Type 0} (two_adicity : ℕ) (params : FriParameters M) (k n : ℕ)
+    (columns : List (List F)) →
+    answer (size_tests two_adicity params k n columns) (tt {0}) ≡ Ok (tt {0}) →
+    is_unfit params ≡ false
+supported two_adicity params k n columns passed =
+    let first = passing _ _ passed in
+    let second = passing _ _ first.1 in
+    let third = passing _ _ second.1 in
+    (passing _ _ third.1).0
 
 -- the logarithm of a power of two
 pub log-is : (height n : ℕ) → 2 ^ n ≡ height → n < 64 → n ≡ log_of height

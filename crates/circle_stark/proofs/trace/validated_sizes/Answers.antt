@@ -9,7 +9,7 @@ use Rattle.circle_relation.proofs.Passed.{front_passes, front_refuses}
 use Rattle.circle_stark.specs.Refusals.{IsTested}
 use Rattle.circle_stark.specs.Trace.{IsNoViolation, shape_tests, size_tests, stated, tests_of_trace}
 use Rattle.circle_stark.proofs.Passing.{same-log}
-use Rattle.circle_stark.proofs.TracePassing.{log-is, one-of, shaped, sized}
+use Rattle.circle_stark.proofs.TracePassing.{log-is, one-of, shaped, sized, supported}
 use Rattle.circle_stark.proofs.trace.validated_sizes.Goals as goal
 
 pub returns-in_err-validate_shape-clause-tested : goal.returns-in_err-validate_shape-clause-tested
@@ -94,6 +94,13 @@ returns-clause-provable g c =
     (ap (λ m. answer (size_tests two c.args.params.now kk m s.parts.periodic_columns) (tt {0}))
     (sym logs)
     ∙ sym c.validate_sizes.ensures ∙ c.in_ok-validate_sizes.was)
+
+pub returns-clause-supported : goal.returns-clause-supported
+returns-clause-supported g c =
+    supported g.F.ComplexExtendable.CIRCLE_TWO_ADICITY c.args.params.now
+    c.log_num_quotient_chunks.result c.log2_strict.result
+    (stated c.args.trace.now).parts.periodic_columns
+    (sym c.validate_sizes.ensures ∙ c.in_ok-validate_sizes.was)
 
 pub returns-clause-width : goal.returns-clause-width
 returns-clause-width g c =
