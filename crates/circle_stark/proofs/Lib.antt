@@ -1,6 +1,8 @@
+pub mod BasisElements
 pub mod BasisSums
 pub mod ChunkPolynomials
 pub mod ChunkSizes
+pub mod CombinedChunks
 pub mod CommittedValues
 pub mod Fixed
 pub mod Heads
@@ -8,8 +10,10 @@ pub mod HonestIdentity
 pub mod HonestRun
 pub mod OpenedClaims
 pub mod OpenedColumns
+pub mod OpenedIdentity
 pub mod OpenedRuns
 pub mod Passing
+pub mod PointWindows
 pub mod Selecting
 pub mod TracePassing
 pub mod Unopened
