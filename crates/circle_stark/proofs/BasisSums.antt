@@ -22,7 +22,8 @@ use Rattle.circle_quotient.proofs.Basis.{zero-coefficients}
 
 module _ {E : Type 0} {l : FieldOps E} (laws : RingLaws l) where
   -- a sum of products by zeros
-  dot-zeros : {X : Type 0} (ws : List E) (xs : List X) → dot l ws (map (λ x. l.zero) xs) ≡ l.zero
+  pub dot-zeros : {X : Type 0} (ws : List E) (xs : List X) →
+      dot l ws (map (λ x. l.zero) xs) ≡ l.zero
   dot-zeros [] xs = refl
   dot-zeros (w ∷ ws) [] = refl
   dot-zeros (w ∷ ws) (x ∷ xs) =
@@ -30,7 +31,7 @@ module _ {E : Type 0} {l : FieldOps E} (laws : RingLaws l) where
       ∙ ring laws (w ∷ []) (sum (prod (var 0) (con 0)) (con 0)) (con 0) refl
 
   -- a sum of products is linear in the second list
-  dot-combined : {X : Type 0} (f h : X → E) (t : E) (ws : List E) (xs : List X) →
+  pub dot-combined : {X : Type 0} (f h : X → E) (t : E) (ws : List E) (xs : List X) →
       dot l ws (map (λ x. l.add (l.mul (f x) t) (h x)) xs)
       ≡ l.add (l.mul (dot l ws (map f xs)) t) (dot l ws (map h xs))
   dot-combined f h t [] xs = ring laws (t ∷ []) (con 0) (sum (prod (con 0) (var 0)) (con 0)) refl

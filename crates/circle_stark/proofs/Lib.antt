@@ -1,6 +1,8 @@
+pub mod BasisElements
 pub mod BasisSums
 pub mod ChunkPolynomials
 pub mod ChunkSizes
+pub mod CombinedChunks
 pub mod Committable
 pub mod CommittedValues
 pub mod Fixed
@@ -9,10 +11,12 @@ pub mod HonestIdentity
 pub mod HonestRun
 pub mod OpenedClaims
 pub mod OpenedColumns
+pub mod OpenedIdentity
 pub mod OpenedRuns
 pub mod Passing
+pub mod PointWindows
 pub mod Selecting
 pub mod TracePassing
-pub mod Unopened
 pub mod TrueValues
+pub mod Unopened
 pub mod Verdicts

@@ -3,6 +3,7 @@ pub mod Claims
 pub mod Draw
 pub mod Honest
 pub mod Json
+pub mod Linked
 pub mod OfPaused
 pub mod OfProvable
 pub mod Opened

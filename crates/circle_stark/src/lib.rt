@@ -15,7 +15,12 @@
 //!   constraint, with the challenger as it was (`unsatisfied`), and it fails in no other case but
 //!   those that its page names (`reason`).
 //! - `prove_and_verify` returns a proof that was accepted, with both challengers in one state. It
-//!   fails as `prove` does (`reason`), and never because `verify` refuses (`complete`).
+//!   returns the first of the refusals of `prove` that need no challenge, with both challengers as
+//!   they were (`first`). It fails as `prove` does (`reason`), and never because `verify` refuses
+//!   (`complete`).
+//! - `laws::opened_identity`: where opened values are those of columns, the identity that `verify`
+//!   tests on the values holds of the columns. It is then as `laws::identity_binds` of
+//!   `circle_quotient` requires it.
 //! - A proof is written as JSON and read back, and a JSON value stands for one proof at most.
 //!
 //! Its files:
@@ -26,14 +31,14 @@
 //!   `claims.rt`: the claims of a proof. `identity.rt`: both sides of the identity.
 //!   `prover.rt`: `prove`. `trace.rt`: what is refused of a trace. `committing.rt`, `opening.rt`:
 //!   what a prover commits to and opens. `round_trip.rt`: `prove_and_verify`. `relation.rt`: what
-//!   contracts cite.
+//!   contracts cite. `laws.rt`: the law of opened values.
 //! - In `specs/`, `Accepts`: the relation. `Draw`, `Steps`: the transcript. `Statement`, `Claims`,
 //!   `Provable`: statements and proofs as lists, the claims, and their shape. `Refusals`, `Verdict`:
 //!   refusals in order, and reasons. `Trace`, `Unproved`: the refusals of a trace, and why there is
 //!   no proof. `Honest`, `Opened`: what an honest prover commits to and opens. `OpensRows`: the
 //!   values that it opens. `Schemes`: all of that over a scheme and its challengers. `OfProvable`,
-//!   `OfPaused`: the same of the values of a run. `RoundTrip`: the refusals of both. `Json`: the
-//!   members of objects.
+//!   `OfPaused`: the same of the values of a run. `RoundTrip`: the refusals of both. `Linked`: the
+//!   columns behind opened values. `Json`: the members of objects.
 //! - In `proofs/`, of `verify`: `Passing`: what tests establish. `Fixed`: the opened values fix the
 //!   identity. `Selecting`: selectors of a standard domain. `Verdicts`: what is drawn fixes the
 //!   verdict.
@@ -42,6 +47,8 @@
 //!   `Heads`: the lists of what is committed to and opened. `OpenedClaims`: the scheme accepts what
 //!   is opened. `TrueValues`, `OpenedColumns`, `ChunkPolynomials`, `BasisSums`: it is the values of
 //!   polynomials. `HonestIdentity`: so the identity holds. `HonestRun`: all of it.
+//! - In `proofs/`, of `opened_identity`: `CombinedChunks`: the value of a chunk's columns put
+//!   together. `OpenedIdentity`: the law.
 #![tactic(auto)]
 
 mod claims;
@@ -49,6 +56,7 @@ mod committing;
 pub mod error;
 mod identity;
 pub mod json;
+pub mod laws;
 mod lists;
 mod opening;
 pub mod proof;
