@@ -85,9 +85,13 @@ module _ {F M : Type 0} {g : Ghosts F} {k : FieldOps F} (laws : FieldLaws k)
 
   of-size : (x : CircleDomain F g × RowMajorMatrix F) → log_size x.0 ≡ n →
       IsGenuine k n (shift_of x.0) → CanBeCommitted x
-  of-size x size genuine =
-      (omega (arith, foldable, size), (omega (arith, extended, size),
-      subst (λ m. IsGenuine k m (shift_of x.0)) (sym size) genuine))
+  of-size x size genuine = (
+    omega (arith, foldable, size),
+    (
+      omega (arith, extended, size),
+      subst (λ m. IsGenuine k m (shift_of x.0)) (sym size) genuine,
+    ),
+  )
 
   -- the trace
   pub trace-committable : (domain : CircleDomain F g) (rows : RowMajorMatrix F) →
@@ -138,86 +142,87 @@ module _ {F E M D Com : Type 0} {g : Ghosts F} (k : Fields F E) (p : FriParamete
     (kept : D → List (RowMajorMatrix F)) (Commits : List (RowMajorMatrix F) → Com → Type 0)
     (n : ℕ) (foldable : p.log_final_poly_len + 2 ≤ n) (extended : n + p.log_blowup < k.two_adicity)
     (zeta next : E) (finite : IsFinite k.extension zeta) (finite_next : IsFinite k.extension next)
-    where
-  asked-at : (x : CircleDomain F g × RowMajorMatrix F) (points : List E) → log_size x.0 ≡ n →
-      All (IsFinite k.extension) points → CanBeAskedAt g k k.two_adicity p x points
-  asked-at x points size all = record {
-    large = omega (arith, foldable, size);
-    in_group = omega (arith, extended, size);
-    finite = all;
-  }
-
-  all-asked : (batch : List (CircleDomain F g × RowMajorMatrix F)) →
-      All (λ c. log_size c.0 ≡ n) batch →
-      AllZip (CanBeAskedAt g k k.two_adicity p) batch (replicate (length batch) (zeta ∷ []))
-  all-asked [] sizes = tt
-  all-asked (x ∷ batch) sizes = (
-    asked-at x (zeta ∷ []) (sizes 0 x (omega arith))
-        (All-cons (IsFinite k.extension) zeta [] finite (All-nil (IsFinite k.extension))),
-    all-asked batch (λ i d lt. sizes (suc i) d (omega (arith, lt))),
-  )
-
-  module _ (a b : D) (x : RowMajorMatrix F) (trace quotient : Com)
-      (of_trace : IsTraceCommitted g k.field k.gen p.log_blowup Commits n x trace (kept a))
-      (batch : List (CircleDomain F g × RowMajorMatrix F)) (count : ℕ)
-      (some : 1 ≤ count) (long : length batch ≡ count)
-      (sizes : All (λ c. log_size c.0 ≡ n) batch)
-      (committed : IsCommitted k.field k.gen p.log_blowup Commits batch quotient (kept b)) where
-    abbrev Asked : OpeningRequest D E → Type 0
-    Asked = IsKeptToAsk g k k.two_adicity p kept Commits
-
-    trace-asked : (q : OpeningRequest D E) → q.prover_data.now ≡ a →
-        requested_points q ≡ (zeta ∷ next ∷ []) ∷ [] → Asked q
-    trace-asked q named points = record {
-      batch = (of_trace.domain, x) ∷ [];
-      commitment = trace;
-      committed = subst
-          (λ d. IsCommitted k.field k.gen p.log_blowup Commits ((of_trace.domain, x) ∷ []) trace
-          (kept d)) (sym named) of_trace.committed;
-      opens = record {
-        some = omega arith;
-        rows = subst
-            (AllZip (CanBeAskedAt g k k.two_adicity p) ((of_trace.domain, x) ∷ [])) (sym points)
-            (asked-at (of_trace.domain, x) (zeta ∷ next ∷ []) of_trace.standard.0
-            (All-cons (IsFinite k.extension) zeta (next ∷ []) finite
-            (All-cons (IsFinite k.extension) next [] finite_next (All-nil (IsFinite k.extension)))),
-            tt);
-      };
+  where
+    asked-at : (x : CircleDomain F g × RowMajorMatrix F) (points : List E) → log_size x.0 ≡ n →
+        All (IsFinite k.extension) points → CanBeAskedAt g k k.two_adicity p x points
+    asked-at x points size all = record {
+      large = omega (arith, foldable, size);
+      in_group = omega (arith, extended, size);
+      finite = all;
     }
 
-    chunks-asked : (q : OpeningRequest D E) → q.prover_data.now ≡ b →
-        requested_points q ≡ replicate count (zeta ∷ []) → Asked q
-    chunks-asked q named points = record {
-      batch = batch;
-      commitment = quotient;
-      committed = subst
-          (λ d. IsCommitted k.field k.gen p.log_blowup Commits batch quotient (kept d)) (sym named)
-          committed;
-      opens = record {
-        some = omega (arith, some, long);
-        rows = subst (AllZip (CanBeAskedAt g k k.two_adicity p) batch)
-            (ap (λ i. replicate i (zeta ∷ [])) long ∙ sym points) (all-asked batch sizes);
-      };
-    }
-
-    pub requests-asked : (requests : List (OpeningRequest D E)) →
-        map (λ r. r.prover_data.now) requests ≡ a ∷ b ∷ [] →
-        map requested_points requests
-        ≡ ((zeta ∷ next ∷ []) ∷ []) ∷ replicate count (zeta ∷ []) ∷ [] →
-        (1 ≤ length requests) × All Asked requests
-    requests-asked [] named points = absurd (let l = ap length named in omega (arith, l))
-    requests-asked (q ∷ []) named points = absurd (let l = ap length named in omega (arith, l))
-    requests-asked (q ∷ s ∷ []) named points = (
-      omega arith,
-      All-cons Asked q (s ∷ [])
-          (trace-asked q (heads _ _ _ _ named) (heads _ _ _ _ points))
-          (All-cons Asked s []
-          (chunks-asked s (heads _ _ _ _ (rests _ _ _ _ named))
-          (heads _ _ _ _ (rests _ _ _ _ points)))
-          (All-nil Asked)),
+    all-asked : (batch : List (CircleDomain F g × RowMajorMatrix F)) →
+        All (λ c. log_size c.0 ≡ n) batch →
+        AllZip (CanBeAskedAt g k k.two_adicity p) batch (replicate (length batch) (zeta ∷ []))
+    all-asked [] sizes = tt
+    all-asked (x ∷ batch) sizes = (
+      asked-at x (zeta ∷ []) (sizes 0 x (omega arith))
+          (All-cons (IsFinite k.extension) zeta [] finite (All-nil (IsFinite k.extension))),
+      all-asked batch (λ i d lt. sizes (suc i) d (omega (arith, lt))),
     )
-    requests-asked (q ∷ s ∷ o ∷ rest) named points =
-        absurd (let l = ap length named in omega (arith, l))
+
+    module _ (a b : D) (x : RowMajorMatrix F) (trace quotient : Com)
+        (of_trace : IsTraceCommitted g k.field k.gen p.log_blowup Commits n x trace (kept a))
+        (batch : List (CircleDomain F g × RowMajorMatrix F)) (count : ℕ)
+        (some : 1 ≤ count) (long : length batch ≡ count)
+        (sizes : All (λ c. log_size c.0 ≡ n) batch)
+        (committed : IsCommitted k.field k.gen p.log_blowup Commits batch quotient (kept b)) where
+      abbrev Asked : OpeningRequest D E → Type 0
+      Asked = IsKeptToAsk g k k.two_adicity p kept Commits
+
+      trace-asked : (q : OpeningRequest D E) → q.prover_data.now ≡ a →
+          requested_points q ≡ (zeta ∷ next ∷ []) ∷ [] → Asked q
+      trace-asked q named points = record {
+        batch = (of_trace.domain, x) ∷ [];
+        commitment = trace;
+        committed = subst
+            (λ d. IsCommitted k.field k.gen p.log_blowup Commits ((of_trace.domain, x) ∷ []) trace
+            (kept d)) (sym named) of_trace.committed;
+        opens = record {
+          some = omega arith;
+          rows = subst
+              (AllZip (CanBeAskedAt g k k.two_adicity p) ((of_trace.domain, x) ∷ [])) (sym points) (
+                asked-at (of_trace.domain, x) (zeta ∷ next ∷ []) of_trace.standard.0
+                    (All-cons (IsFinite k.extension) zeta (next ∷ []) finite
+                    (All-cons (IsFinite k.extension) next [] finite_next (All-nil (IsFinite k.extension)))),
+                tt,
+              );
+        };
+      }
+
+      chunks-asked : (q : OpeningRequest D E) → q.prover_data.now ≡ b →
+          requested_points q ≡ replicate count (zeta ∷ []) → Asked q
+      chunks-asked q named points = record {
+        batch = batch;
+        commitment = quotient;
+        committed = subst
+            (λ d. IsCommitted k.field k.gen p.log_blowup Commits batch quotient (kept d)) (sym named)
+            committed;
+        opens = record {
+          some = omega (arith, some, long);
+          rows = subst (AllZip (CanBeAskedAt g k k.two_adicity p) batch)
+              (ap (λ i. replicate i (zeta ∷ [])) long ∙ sym points) (all-asked batch sizes);
+        };
+      }
+
+      pub requests-asked : (requests : List (OpeningRequest D E)) →
+          map (λ r. r.prover_data.now) requests ≡ a ∷ b ∷ [] →
+          map requested_points requests
+          ≡ ((zeta ∷ next ∷ []) ∷ []) ∷ replicate count (zeta ∷ []) ∷ [] →
+          (1 ≤ length requests) × All Asked requests
+      requests-asked [] named points = absurd (let l = ap length named in omega (arith, l))
+      requests-asked (q ∷ []) named points = absurd (let l = ap length named in omega (arith, l))
+      requests-asked (q ∷ s ∷ []) named points = (
+        omega arith,
+        All-cons Asked q (s ∷ [])
+            (trace-asked q (heads _ _ _ _ named) (heads _ _ _ _ points))
+            (All-cons Asked s []
+            (chunks-asked s (heads _ _ _ _ (rests _ _ _ _ named))
+            (heads _ _ _ _ (rests _ _ _ _ points)))
+            (All-nil Asked)),
+      )
+      requests-asked (q ∷ s ∷ o ∷ rest) named points =
+          absurd (let l = ap length named in omega (arith, l))
 
 -- where no test has reason, a refusal is for want of memory
 pub only-memory : {A : Type 0} (tests : List (Test ProverError)) (result : Result A ProverError)

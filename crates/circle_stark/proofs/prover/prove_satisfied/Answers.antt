@@ -1,4 +1,4 @@
-use Rattle.std.proofs.Common.{[], ◌∷◌, inl, inr, refl, subst}
+use Rattle.std.proofs.Common.{inl, inr, refl, subst}
 use Rattle.circle_air.specs.Air.{air_of}
 use Rattle.circle_air.specs.Degrees.{degree_of_parts}
 use Rattle.circle_air.specs.Valid.{valid}
@@ -7,35 +7,13 @@ use Rattle.circle_stark.specs.Schemes.{described}
 use Rattle.circle_stark.specs.Statement.{values_of}
 use Rattle.circle_stark.specs.Unproved.{IsUnproved}
 use Rattle.circle_stark.specs.declared.error.StarkProverError.TheVariants.{Memory}
-use Rattle.circle_stark.proofs.CommittedValues.{one-kept}
 use Rattle.circle_stark.proofs.HonestRun.{proved, shape}
 use Rattle.circle_stark.proofs.Passing.{same-log}
 use Rattle.circle_stark.proofs.Verdicts.{refuses-with}
-use Rattle.p3_circle.specs.SchemeFacts.{extended-powers}
 use Rattle.circle_stark.proofs.prover.prove_satisfied.Goals as goal
 
 pub open_run-requires-clause-trace : goal.open_run-requires-clause-trace
-open_run-requires-clause-trace g c =
-    let pcs = c.args.provable.now.pcs.now in
-    let trace = c.in_ok-run.ensures.trace in
-    extended-powers g.Val.Operations.ops g.Val.ComplexExtendable.generators
-    pcs.fri_params.log_blowup (g.InputMmcs.Mmcs.commits pcs.mmcs) ((trace.domain, c.args.rows) ∷ [])
-    (g.InputMmcs.Mmcs.matrices c.in_ok-run.run'.trace_data) trace.committed.extended
-
-pub open_run-requires-clause-one : goal.open_run-requires-clause-one
-open_run-requires-clause-one g c =
-    let trace = c.in_ok-run.ensures.trace in
-    one-kept g.Val.Operations.ops g.Val.ComplexExtendable.generators
-    c.args.provable.now.pcs.now.fri_params.log_blowup (trace.domain, c.args.rows)
-    (g.InputMmcs.Mmcs.matrices c.in_ok-run.run'.trace_data) trace.committed.extended
-
-pub open_run-requires-clause-quotient : goal.open_run-requires-clause-quotient
-open_run-requires-clause-quotient g c =
-    let pcs = c.args.provable.now.pcs.now in
-    let chunks = c.in_ok-run.ensures.quotient.chunks in
-    extended-powers g.Val.Operations.ops g.Val.ComplexExtendable.generators
-    pcs.fri_params.log_blowup (g.InputMmcs.Mmcs.commits pcs.mmcs) chunks.batch
-    (g.InputMmcs.Mmcs.matrices c.in_ok-run.run'.quotient_data) chunks.committed.extended
+open_run-requires-clause-trace g c = (c.args.rows, c.in_ok-run.ensures.trace)
 
 pub identity_sides-requires-clause-shape : goal.identity_sides-requires-clause-shape
 identity_sides-requires-clause-shape g c =
