@@ -1,22 +1,22 @@
 -- What a prover commits to can be committed to, and its points can be asked for.
-use Rattle.std.specs.Prelude.{◌≡◌, ◌≢◌, ℕ, ◌+◌, ◌^◌, ◌<◌, ◌≤◌, List, [], ◌∷◌, length}
+use Rattle.std.specs.Prelude.{◌≡◌, ◌≢◌, ℕ, ◌+◌, ◌*◌, ◌^◌, ◌<◌, ◌≤◌, List, [], ◌∷◌, length, Some}
 use Rattle.std.specs.Prelude.{map, replicate, take, All, Err, IfErr, MatchResult, Ok, Result}
 use Rattle.std.specs.Prelude.{slice_get, slice_index_or}
 use Rattle.std.specs.List.{AllZip}
-use Rattle.std.proofs.Common.{zero, suc, sym, ◌∙◌, ap, refl, subst, arith, pow-add}
-use Rattle.std.proofs.lemmas.List.{get_or-map, get_or-replicate, get_or-take, length-map}
+use Rattle.std.proofs.Common.{zero, suc, sym, ◌∙◌, ap, subst, arith, pow-add}
+use Rattle.std.proofs.lemmas.List.{get_or-map, get_or-take, length-map}
 use Rattle.std.proofs.lemmas.List.{length-take-le}
 use Rattle.std.proofs.lemmas.List.Elements.{All-cons, All-nil}
 use Rattle.std.proofs.lemmas.Bool.{le-ltb}
 use Rattle.std.proofs.lemmas.Nat.{pow_pos}
 use lib.Pow.{pow_mono}
 use Rattle.std.proofs.lemmas.Option.{slice_get-get_or}
-use Rattle.circle_commit.specs.Honest.{IsHonest, requested_points}
+use Rattle.circle_commit.specs.Honest.{requested_points}
 use Rattle.circle_commit.specs.RowMajorMatrix.{height_of}
 use Rattle.circle_commit.specs.declared.matrix.RowMajorMatrix.{RowMajorMatrix}
 use Rattle.circle_commit.specs.declared.params.FriParameters.{FriParameters}
 use Rattle.circle_commit.specs.declared.pcs.OpeningRequest.{OpeningRequest}
-use Rattle.circle_domain.specs.Domain.{IsGenuineDomain, IsStandardOf, log_size, shift_of}
+use Rattle.circle_domain.specs.Domain.{IsStandardOf, log_size, shift_of}
 use Rattle.circle_domain.specs.Order.{IsGenuine, natural_order}
 use Rattle.circle_domain.specs.Selectors.{IsFinite, next_from}
 use Rattle.circle_domain.specs.declared.domain.CircleDomain.{CircleDomain}
@@ -24,7 +24,7 @@ use Rattle.circle_domain.proofs.Inversion.{first-genuine}
 use Rattle.circle_domain.proofs.PartLists.{length-natural_order}
 use Rattle.circle_domain.proofs.StandardDomain.{standard-genuine}
 use Rattle.circle_domain.proofs.Walking.{coordinate-finite, standard-at, standard-doublings}
-use Rattle.circle_field.specs.Circle.{AreGenerators, Coordinates, IsOnCircle, lifted, origin, plus}
+use Rattle.circle_field.specs.Circle.{AreGenerators, Coordinates, IsOnCircle, lifted, origin}
 use Rattle.circle_field.specs.Circle.{times}
 use Rattle.circle_field.specs.CircleGroup.{lifted-on_circle, plus-on_circle}
 use Rattle.circle_field.specs.Field.{FieldLaws, FieldOps, IsEmbedding}
@@ -44,8 +44,8 @@ use Rattle.circle_relation.specs.declared.error.ProverError.TheVariants.{Memory}
 use Rattle.p3_circle.specs.Committing.{AreExtensions, IsExtendable, RefusesInOrder}
 use Rattle.p3_circle.specs.Committing.{target_tests_at}
 use Rattle.p3_circle.specs.Scheme.{IsCommitted}
-use Rattle.p3_circle.specs.SchemeLaws.HonestTests.{CanBeAskedAt, IsAskedBatch, IsKeptToAsk}
-use Rattle.circle_stark.specs.Honest.{AreChunksCommitted, IsTraceCommitted}
+use Rattle.p3_circle.specs.SchemeLaws.HonestTests.{CanBeAskedAt, IsKeptToAsk}
+use Rattle.circle_stark.specs.Honest.{IsTraceCommitted}
 use Rattle.circle_stark.proofs.Heads.{heads, rests}
 
 module _ {F : Type 0} {k : FieldOps F} (laws : FieldLaws k) {gen : ℕ → Coordinates F} {bits : ℕ}
@@ -107,7 +107,7 @@ module _ {F M : Type 0} {g : Ghosts F} {k : FieldOps F} (laws : FieldLaws k)
   module _ (kk : ℕ) (fits : n + kk < two) (batch : List (CircleDomain F g × RowMajorMatrix F))
       (shifts : map (λ c. shift_of c.0) batch
       ≡ take (2 ^ kk) (natural_order k gen (n + kk) (gen (n + kk + 1)))) where
-    all-points : List (Coordinates F)
+    abbrev all-points : List (Coordinates F)
     all-points = natural_order k gen (n + kk) (gen (n + kk + 1))
 
     whole : length all-points ≡ 2 ^ (n + kk)
@@ -127,11 +127,11 @@ module _ {F M : Type 0} {g : Ghosts F} {k : FieldOps F} (laws : FieldLaws k)
     chunks-committable sizes = λ i d lt.
         let c = slice_index_or batch i d in
         let below : i < 2 ^ kk = omega (arith, lt, chunk-count) in
-        let q = slice_index_or all-points i (shift_of d.0) in
+        let q : Coordinates F = slice_index_or all-points i (shift_of d.0) in
         let same : shift_of c.0 ≡ q =
         sym (get_or-map (λ c. shift_of c.0) batch i d (shift_of d.0) lt)
         ∙ ap (λ ps. slice_index_or ps i (shift_of d.0)) shifts
-        ∙ get_or-take (2 ^ kk) i all-points (shift_of d.0) below in
+        ∙ get_or-take (2 ^ kk) all-points i (shift_of d.0) below in
         of-size c (sizes i d lt)
         (subst (IsGenuine k n) (sym same)
         (part-genuine laws gens n kk (omega (arith, foldable)) fits i q
@@ -184,7 +184,8 @@ module _ {F E M D Com : Type 0} {g : Ghosts F} (k : Fields F E) (p : FriParamete
               (AllZip (CanBeAskedAt g k k.two_adicity p) ((of_trace.domain, x) ∷ [])) (sym points) (
                 asked-at (of_trace.domain, x) (zeta ∷ next ∷ []) of_trace.standard.0
                     (All-cons (IsFinite k.extension) zeta (next ∷ []) finite
-                    (All-cons (IsFinite k.extension) next [] finite_next (All-nil (IsFinite k.extension)))),
+                    (All-cons (IsFinite k.extension) next [] finite_next
+                    (All-nil (IsFinite k.extension)))),
                 tt,
               );
         };
@@ -196,7 +197,8 @@ module _ {F E M D Com : Type 0} {g : Ghosts F} (k : Fields F E) (p : FriParamete
         batch = batch;
         commitment = quotient;
         committed = subst
-            (λ d. IsCommitted k.field k.gen p.log_blowup Commits batch quotient (kept d)) (sym named)
+            (λ d. IsCommitted k.field k.gen p.log_blowup Commits batch quotient (kept d))
+            (sym named)
             committed;
         opens = record {
           some = omega (arith, some, long);
@@ -242,7 +244,8 @@ next-finite {l = l} {m = m} laws embedding {gen = gen} gens n fits t fit =
     let q = next_from l m gen n t in
     let on : IsOnCircle l q =
     plus-on_circle laws.ring (from_line l t) (lifted m (gen n))
-    (finite-on_circle laws t fit.finite) (lifted-on_circle embedding (gen n) (gens.on_circle n fits))
+    (finite-on_circle laws t fit.finite)
+    (lifted-on_circle embedding (gen n) (gens.on_circle n fits))
     in
     coordinate-finite laws q on (not_infinite laws q on fit.has_next)
 
@@ -257,7 +260,8 @@ target-passes k gen two p n m foldable extended larger domain given standard [] 
 target-passes k gen two p n m foldable extended larger domain given standard (kept ∷ []) made =
     let tall : height_of kept ≡ 2 ^ (n + p.log_blowup) =
     made.0.height ∙ ap (λ i. 2 ^ (i + p.log_blowup)) standard.0 in
-    let within : 2 ^ (n + p.log_blowup) ≤ 2 ^ (m + p.log_blowup) = pow_mono (omega (arith, larger)) in
+    let within : 2 ^ (n + p.log_blowup) ≤ 2 ^ (m + p.log_blowup) =
+    pow_mono (omega (arith, larger)) in
     front_passes (height_tests two p (height_of kept)) _ (tt {0}) (tt {0}) (tt {0})
     (height_fits two p (height_of kept) (n + p.log_blowup) (sym tall) (omega (arith, foldable))
     extended)

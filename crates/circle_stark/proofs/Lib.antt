@@ -1,4 +1,3 @@
-pub mod BasisElements
 pub mod BasisSums
 pub mod ChunkPolynomials
 pub mod ChunkSizes
@@ -14,7 +13,6 @@ pub mod OpenedColumns
 pub mod OpenedIdentity
 pub mod OpenedRuns
 pub mod Passing
-pub mod PointWindows
 pub mod Selecting
 pub mod TracePassing
 pub mod TrueValues

@@ -16,6 +16,17 @@ use Rattle.circle_domain.specs.Selectors.{next_from}
 use Rattle.circle_point.specs.Projective.{to_line}
 use Rattle.circle_relation.specs.Accepts.{Fields}
 use Rattle.circle_relation.specs.declared.error.ProverError.{ProverError}
+use Rattle.circle_relation.specs.declared.error.ProverError.TheVariants.{DomainSmallerThanTrace}
+use Rattle.circle_relation.specs.declared.error.ProverError.TheVariants.{HeightTooLarge}
+use Rattle.circle_relation.specs.declared.error.ProverError.TheVariants.{HeightTooSmall, NotGenuine}
+use Rattle.circle_relation.specs.declared.error.ProverError.TheVariants.{LastWordNotConstant}
+use Rattle.circle_relation.specs.declared.error.ProverError.TheVariants.{MatrixCountMismatch}
+use Rattle.circle_relation.specs.declared.error.ProverError.TheVariants.{Memory as OutOfMemory}
+use Rattle.circle_relation.specs.declared.error.ProverError.TheVariants.{NoCommittedMatrices}
+use Rattle.circle_relation.specs.declared.error.ProverError.TheVariants.{NoGrindingWitness as NoWitness}
+use Rattle.circle_relation.specs.declared.error.ProverError.TheVariants.{PointAtInfinity}
+use Rattle.circle_relation.specs.declared.error.ProverError.TheVariants.{PointOnDomain as OnDomain}
+use Rattle.circle_relation.specs.declared.error.ProverError.TheVariants.{UnfitParameters}
 use Rattle.circle_relation.specs.TestsInOrder.{Test, answer}
 use Rattle.circle_stark.specs.Draw.{Described}
 use Rattle.circle_stark.specs.Statement.{Statement}
@@ -27,6 +38,22 @@ use Rattle.circle_stark.specs.declared.error.StarkProverError.TheVariants.{NoGri
 use Rattle.circle_stark.specs.declared.error.StarkProverError.TheVariants.{PointOnDomain}
 use Rattle.circle_stark.specs.declared.error.StarkProverError.TheVariants.{Unsatisfied}
 
+-- only these refusals of the scheme are reported
+opening-refusal : (error : ProverError) (e : StarkProverError) → IsReportedAs error e →
+    IsOpeningRefusal error
+opening-refusal OutOfMemory e reported = inl refl
+opening-refusal OnDomain e reported = inr (inl refl)
+opening-refusal (NoWitness phase) e reported = inr (inr (phase, refl))
+opening-refusal UnfitParameters e reported = absurd reported
+opening-refusal HeightTooLarge e reported = absurd reported
+opening-refusal HeightTooSmall e reported = absurd reported
+opening-refusal NotGenuine e reported = absurd reported
+opening-refusal MatrixCountMismatch e reported = absurd reported
+opening-refusal NoCommittedMatrices e reported = absurd reported
+opening-refusal PointAtInfinity e reported = absurd reported
+opening-refusal LastWordNotConstant e reported = absurd reported
+opening-refusal DomainSmallerThanTrace e reported = absurd reported
+
 module _ {S D F E : Type 0} (k : Fields F E)
     (refuses : List (OpeningRequest D E) → S → S → ProverError → Type 0) (n count : ℕ)
     (trace quotient : D) (zeta : E) (old new : S) (requests : List (OpeningRequest D E))
@@ -35,10 +62,9 @@ module _ {S D F E : Type 0} (k : Fields F E)
     ≡ ((zeta ∷ to_line k.extension (next_from k.extension k.embed k.gen n zeta) ∷ []) ∷ [])
     ∷ replicate count (zeta ∷ []) ∷ []) where
   -- the scheme's refusal, as it is reported
-  pub unopened-for : (e : StarkProverError) (error : ProverError) → IsOpeningRefusal error →
-      IsReportedAs error e → refuses requests old new error →
-      IsUnopenedFor k refuses n count trace quotient zeta old new e
-  unopened-for e error why reported refused =
+  pub unopened-for : (e : StarkProverError) (error : ProverError) → IsReportedAs error e →
+      refuses requests old new error → IsUnopenedFor k refuses n count trace quotient zeta old new e
+  unopened-for e error reported refused =
       let run : IsUnopened k refuses n count trace quotient zeta old new e = record {
         requests = requests;
         kept = kept;
@@ -47,7 +73,7 @@ module _ {S D F E : Type 0} (k : Fields F E)
         refused = refused;
         reported = reported;
       } in
-      elim why [
+      elim (opening-refusal error e reported) [
         | inl memory ↦
             subst (IsUnopenedFor k refuses n count trace quotient zeta old new)
             (sym (subst (λ f. IsReportedAs f e) memory reported)) tt

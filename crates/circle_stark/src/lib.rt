@@ -15,9 +15,7 @@
 //!   constraint, with the challenger as it was (`unsatisfied`), and it fails in no other case but
 //!   those that its page names (`reason`).
 //! - `prove_and_verify` returns a proof that was accepted, with both challengers in one state. It
-//!   returns the first of the refusals of `prove` that need no challenge, with both challengers as
-//!   they were (`first`). It fails as `prove` does (`reason`), and never because `verify` refuses
-//!   (`complete`).
+//!   fails as `prove` does (`reason`), and never because `verify` refuses (`complete`).
 //! - `laws::opened_identity`: where opened values are those of columns, the identity that `verify`
 //!   tests on the values holds of the columns. It is then as `laws::identity_binds` of
 //!   `circle_quotient` requires it.
@@ -43,6 +41,7 @@
 //!   identity. `Selecting`: selectors of a standard domain. `Verdicts`: what is drawn fixes the
 //!   verdict.
 //! - In `proofs/`, of `prove`: `TracePassing`: what the tests of a trace establish.
+//!   `Committable`: what is committed to passes the scheme's tests.
 //!   `CommittedValues`: a committed trace's values on a larger domain. `ChunkSizes`, `OpenedRuns`,
 //!   `Heads`: the lists of what is committed to and opened. `OpenedClaims`: the scheme accepts what
 //!   is opened. `TrueValues`, `OpenedColumns`, `ChunkPolynomials`, `BasisSums`: it is the values of

@@ -16,7 +16,8 @@ returns-in-Ok-clause-height g c =
     ) in
     continues-tall g.Val.Operations.laws g.met.Val.ComplexExtendable.generators_law
     c.args.pcs.now.fri_params.log_blowup c.args.statement.now.log_n c.args.log_size
-    (omega (arith, c.requires.foldable)) (omega (arith, c.requires.foldable, c.requires.larger)) c.requires.extended
+    (omega (arith, c.requires.foldable)) (omega (arith, c.requires.foldable, c.requires.larger))
+    c.requires.extended
     target on c.in-Ok.rows (g.InputMmcs.Mmcs.matrices c.args.trace.now) c.in-Ok.ensures.values
     c.requires.kept.domain c.requires.kept.given c.requires.kept.standard c.requires.kept.extended
 
@@ -30,7 +31,8 @@ returns-in-Ok-clause-values g c =
     ) in
     continues g.Val.Operations.laws g.met.Val.ComplexExtendable.generators_law
     c.args.pcs.now.fri_params.log_blowup c.args.statement.now.log_n c.args.log_size
-    (omega (arith, c.requires.foldable)) (omega (arith, c.requires.foldable, c.requires.larger)) c.requires.extended
+    (omega (arith, c.requires.foldable)) (omega (arith, c.requires.foldable, c.requires.larger))
+    c.requires.extended
     target on c.in-Ok.rows (g.InputMmcs.Mmcs.matrices c.args.trace.now) c.in-Ok.ensures.values
 
 pub out_of_memory-requires : goal.out_of_memory-requires

@@ -1,4 +1,4 @@
-use Rattle.std.proofs.Common.{◌^◌, [], ◌∷◌, arith, refl, subst, sym}
+use Rattle.std.proofs.Common.{◌+◌, ◌^◌, ◌≤◌, [], ◌∷◌, arith, refl, subst, sym}
 use Rattle.std.proofs.lemmas.Nat.{pow_pos}
 use Rattle.circle_commit.specs.Mmcs.{HaveHeightsOfPowers}
 use Rattle.circle_commit.specs.Pcs.{openings}
@@ -54,7 +54,7 @@ refusal_of_opening-requires g c =
     let gens = g.met.Val.ComplexExtendable.generators_law in
     let in_group = t.provable.domains.in_group in
     let small = g.met.Val.ComplexExtendable.at_most_62 in
-    let foldable = omega (arith, t.provable.large) in
+    let foldable : p.log_final_poly_len + 2 ≤ n = omega (arith, t.provable.large) in
     let Commits = g.InputMmcs.Mmcs.commits t.pcs.now.mmcs in
     let fit = c.in-Some.ensures.some.0 refl in
     let known = requests-asked k p g.InputMmcs.Mmcs.matrices Commits n foldable t.provable.extended
@@ -85,9 +85,7 @@ returns-in-Err-clause-unopened g c =
     (points-of t.log_chunks
     (omega (arith, t.provable.domains.in_group, g.met.Val.ComplexExtendable.at_most_62))
     run.drawn.zeta c.in-Some.next _ c.in-Some.ensures.next _ c.in_ok-requests.ensures.points) _
-    c.in-Err.error
-    (refusal_of_opening-requires g (goal.at.returns-in-Err-clause-unopened g c).In-Err)
-    c.refusal_of_opening.ensures c.in-Err.ensures.refused
+    c.in-Err.error c.refusal_of_opening.ensures c.in-Err.ensures.refused
 
 pub returns-clause-opened : goal.returns-clause-opened
 returns-clause-opened g c =
