@@ -2,7 +2,7 @@
 use Rattle.std.specs.Prelude.{◌≡◌, ℕ, ◌+◌, ◌^◌, ◌<◌, ◌≤◌, List, [], ◌∷◌, length, map}
 use Rattle.std.specs.Prelude.{slice_get, slice_index_or}
 use Rattle.std.specs.List.{AllByRecursion, range_with_len}
-use Rattle.std.proofs.Common.{sym, ◌∙◌, ap, subst, arith}
+use Rattle.std.proofs.Common.{sym, ◌∙◌, ap, refl, subst, arith}
 use Rattle.std.proofs.lemmas.List.{length-map}
 use Rattle.std.proofs.lemmas.List.FromFn.{length-range_with_len}
 use Rattle.std.proofs.lemmas.List.Elements.{recursion_from_All}
@@ -27,9 +27,9 @@ use Rattle.circle_field.specs.declared.field.Operations.{Ghosts}
 use Rattle.circle_point.specs.Basis.{vanishing}
 use Rattle.circle_point.specs.Projective.{from_line, to_line}
 use Rattle.circle_point.proofs.Projections.{from_line-on_circle, line_norm-zero}
+use Rattle.circle_quotient.specs.Basis.{AreBasis}
 use Rattle.circle_quotient.specs.Fit.{IsFit}
-use Rattle.circle_quotient.specs.Recomposition.{IsRecomposed, part_values}
-use Rattle.circle_quotient.specs.Recomposition.{recomposed as combined_of}
+use Rattle.circle_quotient.specs.Recomposition.{part_values, recomposed}
 use Rattle.circle_quotient.specs.Window.{IsWindowOf, next_point}
 use Rattle.circle_relation.specs.Accepts.{Authenticates, Fields}
 use Rattle.circle_relation.specs.RunOf.{proof_of}
@@ -48,6 +48,7 @@ use Rattle.circle_stark.specs.Statement.{OpenedValues, Statement}
 use Rattle.circle_stark.proofs.ChunkPolynomials.{AreBaseChunksOf}
 use Rattle.circle_stark.proofs.HonestIdentity.{honest-identity}
 use Rattle.circle_stark.proofs.OpenedClaims.{accepts-opened}
+use Rattle.circle_stark.proofs.PointWindows.{composition-there}
 use Rattle.circle_stark.proofs.TrueValues.{AreOfCoefficients, AreTrueOf, chunks-wide}
 use Rattle.circle_stark.proofs.TrueValues.{counted, of-batch, opened_of, parts-at, true-of}
 
@@ -160,7 +161,7 @@ module _ {C S D F E I M IC ID IP IE WC WD WP WE : Type 0} {g : Ghosts F} (k : Fi
     line-long t =
         length-map (range_with_len 0 s.parts.width) _ ∙ length-range_with_len 0 s.parts.width
 
-    pub shape : HasShape own.base.degree s.parts.width kk v
+    shape : HasShape own.base.degree s.parts.width kk v
     shape = record {
       local = ap length local-is ∙ line-long zeta;
       next = ap length next-is ∙ line-long next;
@@ -195,36 +196,45 @@ module _ {C S D F E I M IC ID IP IE WC WD WP WE : Type 0} {g : Ghosts F} (k : Fi
         (natural_order k.field k.gen s.log_n (k.gen (s.log_n + 1)))) (sym width) ∙ has.values
 
     module _ (on_next : from_line k.extension next
-        ≡ next_from k.extension k.embed k.gen s.log_n zeta) (value combined : E)
-        (composed : IsCompositionAt k.field k.gen k.extension k.embed s v alpha zeta value)
-        (recomposed : IsRecomposed k.field k.gen k.extension k.embed own.base.coefficients
-        own.base.degree s.log_n kk v.chunks (from_line k.extension zeta) combined) where
+        ≡ next_from k.extension k.embed k.gen s.log_n zeta) (basis : List E)
+        (of_basis : AreBasis k.field own.base.coefficients own.base.degree basis) where
       abbrev point : Coordinates E
       point = from_line k.extension zeta
+
+      -- both sides of the identity have a value
+      composed : (value : E) × IsCompositionAt k.field k.gen k.extension k.embed s v alpha zeta value
+      composed =
+          composition-there base laws e gens s (omega (arith, provable.domains.positive))
+          (omega (arith, provable.domains.in_group)) valid provable.domains.periods v alpha zeta
+
+      abbrev combined : E
+      combined =
+          recomposed k.extension (map k.embed (part_values k.field k.gen s.log_n kk))
+          (map (dot k.extension basis) v.chunks) (vanishing k.extension s.log_n point)
 
       reads : IsWindowOf k.field k.gen k.extension k.embed s.log_n s.parts s.public_values point
           (lifted_values_at k.field.zero k.extension k.embed coeffs s.parts.width point)
           (lifted_values_at k.field.zero k.extension k.embed coeffs s.parts.width
-          (next_point k.field k.gen k.extension k.embed s.log_n point)) composed.window
+          (next_point k.field k.gen k.extension k.embed s.log_n point)) composed.1.window
       reads =
           subst (λ here. IsWindowOf k.field k.gen k.extension k.embed s.log_n s.parts
           s.public_values point here (lifted_values_at k.field.zero k.extension k.embed coeffs
           s.parts.width (next_point k.field k.gen k.extension k.embed s.log_n point))
-          composed.window) local-is
+          composed.1.window) local-is
           (subst (λ after. IsWindowOf k.field k.gen k.extension k.embed s.log_n s.parts
-          s.public_values point v.local after composed.window)
+          s.public_values point v.local after composed.1.window)
           (next-is ∙ ap (lifted_values_at k.field.zero k.extension k.embed coeffs s.parts.width)
-          on_next) composed.reads)
+          on_next) composed.1.reads)
 
       identity : HasIdentity k.field k.gen k.extension k.embed s own.base.coefficients
           own.base.degree kk v alpha zeta
       identity = record {
-        value = value;
+        value = composed.0;
         quotient = combined;
-        composed = composed;
-        recomposed = recomposed;
+        composed = composed.1;
+        recomposed = (basis, of_basis, refl);
         equal =
-            composed.sum
+            composed.1.sum
             ∙ honest-identity base laws e gens told s.log_n kk
             (omega (arith, provable.domains.positive)) provable.domains.chunks.positive
             provable.domains.in_group s.parts valid (rows x) s.public_values satisfied
@@ -236,12 +246,11 @@ module _ {C S D F E I M IC ID IP IE WC WD WP WE : Type 0} {g : Ghosts F} (k : Fi
             ∙ as_long)
             base-chunks point
             (from_line-on_circle laws zeta (λ z. fit.finite (line_norm-zero laws zeta z)))
-            fit.off_domain composed.window reads recomposed.0 recomposed.1
+            fit.off_domain composed.1.window reads basis of_basis
             ∙ ap (λ cs. k.extension.mul (vanishing k.extension s.log_n point)
-            (combined_of k.extension (map k.embed (part_values k.field k.gen s.log_n kk))
-            (map (dot k.extension recomposed.0) cs) (vanishing k.extension s.log_n point)))
-            (sym chunks-are.opened)
-            ∙ ap (k.extension.mul (vanishing k.extension s.log_n point)) (sym recomposed.2);
+            (recomposed k.extension (map k.embed (part_values k.field k.gen s.log_n kk))
+            (map (dot k.extension basis) cs) (vanishing k.extension s.log_n point)))
+            (sym chunks-are.opened);
       }
 
       accepted : (d : Described F) (old : S) → AreDrawn own d tc qc old alpha zeta between →

@@ -1,3 +1,4 @@
+pub mod BasisElements
 pub mod BasisSums
 pub mod ChunkPolynomials
 pub mod ChunkSizes
@@ -13,6 +14,7 @@ pub mod OpenedColumns
 pub mod OpenedIdentity
 pub mod OpenedRuns
 pub mod Passing
+pub mod PointWindows
 pub mod Selecting
 pub mod TracePassing
 pub mod TrueValues

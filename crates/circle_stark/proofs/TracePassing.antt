@@ -1,9 +1,10 @@
 -- The tests of a trace, and what they establish.
 use Rattle.std.specs.Prelude.{◌≡◌, ℕ, ◌^◌, ◌<◌, ◌==◌, Bool, true, false, not, length, List}
-use Rattle.std.specs.Prelude.{[], ◌∷◌, Err, Ok}
+use Rattle.std.specs.Prelude.{[], ◌∷◌, Err, IfErr, Ok, Result}
 use Rattle.std.specs.Int.{is_power_of_two}
 use Rattle.std.specs.List.{AllByRecursion}
-use Rattle.std.proofs.Common.{◌∙◌, ap, subst, sym}
+use Rattle.std.proofs.Common.{◌∙◌, ap, sym}
+use Rattle.std.proofs.lemmas.Result.{IfErr-at_err}
 use Rattle.circle_air.specs.Degrees.{IsLogOfChunks, degree_of_parts}
 use Rattle.circle_codewords.specs.Requests.{log_of}
 use Rattle.circle_codewords.proofs.Logs.{log_of-power}
@@ -13,21 +14,53 @@ use Rattle.circle_relation.specs.TestsInOrder.{Test, answer}
 use Rattle.circle_relation.proofs.Answering.{answer-none, passing, skipped}
 use Rattle.circle_stark.specs.Provable.{IsProvable}
 use Rattle.circle_stark.specs.Statement.{Statement}
-use Rattle.circle_stark.specs.Trace.{shape_tests, size_tests}
+use Rattle.circle_stark.specs.Trace.{IfRefused, shape_tests, size_tests, tests_of_trace}
+use Rattle.circle_stark.specs.declared.error.StarkProverError.{StarkProverError}
+use Rattle.circle_stark.specs.declared.error.StarkProverError.TheVariants.{Memory}
+use Rattle.circle_stark.specs.declared.trace.StarkTrace.{StarkTrace}
 use Rattle.circle_stark.proofs.Passing.{provable, same_count}
 
 not-false : (b : Bool) → not b ≡ false → b ≡ true
 not-false true is = cc
 not-false false is = cc
 
--- what holds of each refusal holds of the one that is returned
+-- what holds of each refusal holds of the first
+pub of-first : {Error : Type 0} (P : Error → Type 0) (tests : List (Test Error)) →
+    AllByRecursion (λ t. P t.1) tests → IfErr (answer tests (tt {0})) P
+unfolding answer
+of-first P [] all = tt
+of-first P ((true, first) ∷ tests) all = all.0
+of-first P ((false, first) ∷ tests) all = of-first P tests all.1
+
+-- and so of the one that is returned
 pub one-of : {Error : Type 0} (P : Error → Type 0) (tests : List (Test Error)) (e : Error) →
     AllByRecursion (λ t. P t.1) tests → answer tests (tt {0}) ≡ Err e → P e
-unfolding answer
-one-of P [] e all is = absurd (cc)
-one-of P ((true, first) ∷ tests) e all is =
-    let same : first ≡ e = cc in subst P same all.0
-one-of P ((false, first) ∷ tests) e all is = one-of P tests e all.1 is
+one-of P tests e all is = IfErr-at_err P is (of-first P tests all)
+
+if-both : {A Error : Type 0} (r : Result A Error) (P Q R : Error → Type 0) →
+    ((e : Error) → P e → Q e → R e) → IfErr r P → IfErr r Q → IfErr r R
+if-both (Ok value) P Q R then p q = tt
+if-both (Err e) P Q R then p q = then e p q
+
+-- the refusal isn't want of memory
+abbrev pub NeedsNoMemory : StarkProverError → Type 0
+NeedsNoMemory Memory = ⊥
+NeedsNoMemory _ = Unit {0}
+
+-- what is said of the first refusal of a trace, which is none for want of memory
+pub of-refused : {F M : Type 0} (two_adicity : ℕ) (params : FriParameters M) (t : StarkTrace F)
+    (P Q : StarkProverError → Type 0) → ((e : StarkProverError) → NeedsNoMemory e → P e → Q e) →
+    IfRefused two_adicity params t P → IfRefused two_adicity params t Q
+of-refused two_adicity params t P Q then first = λ k log.
+    let tests = tests_of_trace two_adicity params k t in
+    if-both (answer tests (tt {0})) NeedsNoMemory P Q then
+    (of-first NeedsNoMemory tests (tt, (tt, (tt, (tt, (tt, (tt, (tt, tt)))))))) (first k log)
+
+-- a result is one refusal
+pub one-refusal : {A : Type 0} (r : Result A StarkProverError) (d e : StarkProverError) →
+    r ≡ Err d → r ≡ Err e → d ≡ e
+one-refusal r d e is same =
+    let both : ◌≡◌ {A = Result _ _} (Err d) (Err e) = sym is ∙ same in cc
 
 -- a trace of the AIR's shape
 pub record IsShaped {F : Type 0} (s : Statement F) (width height : ℕ) : Type 0 where

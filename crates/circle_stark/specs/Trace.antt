@@ -76,13 +76,18 @@ abbrev pub tests_of_trace : {F M : Type 0} → ℕ → FriParameters M → ℕ �
 tests_of_trace two_adicity params log_chunks t =
     trace_tests two_adicity params log_chunks (stated t) (width_of t.rows) (height_of t.rows)
 
+-- First holds of the first refusal of a trace, where a test applies
+abbrev pub IfRefused : {F M : Type 0} → ℕ → FriParameters M → StarkTrace F
+    → (StarkProverError → Type 0) → Type 0
+IfRefused two_adicity params t First =
+    (k : ℕ) → IsLogOfChunks (degree_of_parts (stated t).parts) k →
+    IfErr (answer (tests_of_trace two_adicity params k t) (tt {0})) First
+
 -- where a test applies, the first refusal is returned, and the challenger stays as it was
 abbrev pub IsFirstTraceRefusal : {A C F M : Type 0} → ℕ → FriParameters M → StarkTrace F
     → Result A StarkProverError → C → C → Type 0
 IsFirstTraceRefusal two_adicity params t result old new =
-    (k : ℕ) → IsLogOfChunks (degree_of_parts (stated t).parts) k →
-    IfErr (answer (tests_of_trace two_adicity params k t) (tt {0}))
-    (λ e. (result ≡ Err e) × (new ≡ old))
+    IfRefused two_adicity params t (λ e. (result ≡ Err e) × (new ≡ old))
 
 -- `Unsatisfied` names the first row at which a constraint doesn't hold, and the first such
 -- constraint there, and the challenger stays as it was

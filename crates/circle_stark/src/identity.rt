@@ -126,44 +126,22 @@ fn composition_at<F: ComplexExtendable, EF: ExtensionField<F>>(
     composition(alloc, air, &window, &selectors, drawn.alpha)
 }
 
-/// What both sides of the identity are made of at the drawn point, by the opened values.
-#[derive(Clone, Copy)]
-pub(crate) struct IdentitySides<EF> {
-    /// The constraints put together.
-    pub composition: EF,
-    /// The quotient put together from its chunks.
-    pub quotient: EF,
-}
-
-/// What both sides of the identity are made of at the drawn point, of a quotient in `2^log_chunks`
-/// chunks. Fails where memory is refused.
-///
-/// Requires a statement and values that were validated, and a point that can be opened.
-pub(crate) fn identity_sides<F: ComplexExtendable, EF: ExtensionField<F>>(
+// The quotient in `2^log_chunks` chunks at the drawn point, by the opened values.
+fn quotient_at<F: ComplexExtendable, EF: ExtensionField<F>>(
     alloc: Global,
     statement: &StarkStatement<F>,
     log_chunks: usize,
     values: &StarkOpenedValues<EF>,
-    drawn: Challenges<EF>,
-) -> Result<IdentitySides<EF>, AllocError>
+    zeta: EF,
+) -> Result<EF, AllocError>
     requires domains { HasDomains F.CIRCLE_TWO_ADICITY (statement_of statement.now) log_chunks }
     requires shape { HasShape EF.DEGREE (statement_of statement.now).parts.width log_chunks
         (values_of values.now) }
-    requires fit { IsFit EF.ops EF.embed F.generators statement.now.log_n drawn.zeta }
-    ensures composed { IfOk result (λ sides. IsCompositionAt F.ops F.generators EF.ops EF.embed
-        (statement_of statement.now) (values_of values.now) drawn.alpha drawn.zeta
-        sides.composition) }
-    ensures recomposed { IfOk result (λ sides. IsRecomposed F.ops F.generators EF.ops EF.embed
-        EF.coefficients EF.DEGREE statement.now.log_n log_chunks (values_of values.now).chunks
-        (from_line EF.ops drawn.zeta) sides.quotient) }
+    requires fit { IsFit EF.ops EF.embed F.generators statement.now.log_n zeta }
+    ensures { IfOk result (IsRecomposed F.ops F.generators EF.ops EF.embed EF.coefficients EF.DEGREE
+        statement.now.log_n log_chunks (values_of values.now).chunks (from_line EF.ops zeta)) }
 {
-    let composition = composition_at(alloc, statement, log_chunks, values, drawn)?;
-    let chunks = &values.quotient_chunks;
-    let quotient = recompose_quotient::<F, EF>(alloc, statement.log_n, chunks, drawn.zeta)?;
-    Ok(IdentitySides {
-        composition,
-        quotient,
-    })
+    recompose_quotient::<F, EF>(alloc, statement.log_n, &values.quotient_chunks, zeta)
 }
 
 /// Whether at the drawn point the constraints put together are the vanishing polynomial times the
@@ -185,6 +163,7 @@ pub(crate) fn has_identity<F: ComplexExtendable, EF: ExtensionField<F>>(
         (statement_of statement.now) EF.coefficients EF.DEGREE log_chunks
         (values_of values.now) drawn.alpha drawn.zeta) }
 {
-    let sides = identity_sides(alloc, statement, log_chunks, values, drawn)?;
-    Ok(sides.composition == vanishing_at(statement.log_n, drawn.zeta) * sides.quotient)
+    let composition = composition_at(alloc, statement, log_chunks, values, drawn)?;
+    let quotient = quotient_at(alloc, statement, log_chunks, values, drawn.zeta)?;
+    Ok(composition == vanishing_at(statement.log_n, drawn.zeta) * quotient)
 }

@@ -1,13 +1,14 @@
 //! Laws of proofs that are accepted. The calls of this module return nothing, allocate nothing and
 //! carry what their contracts say.
-ghost use Rattle.std.specs.Prelude.{◌≤◌};
+ghost use Rattle.std.specs.Prelude.{◌≤◌, List};
+ghost use Rattle.circle_quotient.specs.Basis.{AreBasis};
 ghost use Rattle.circle_quotient.specs.Fit.{IsFit};
 ghost use Rattle.circle_stark.specs.Accepts.{HasIdentity};
 ghost use Rattle.circle_stark.specs.Linked.{HoldsOfColumns};
 ghost use Rattle.circle_stark.specs.Statement.{statement_of, values_of};
 
 use crate::proof::{StarkOpenedValues, StarkStatement};
-use circle_field::{ComplexExtendable, ExtensionField};
+use circle_field::{ComplexExtendable, ExtensionField, Field};
 
 /// Where opened values are those of columns and the identity holds of the values, it holds of the
 /// columns, in the form in which [`identity_binds`](circle_quotient::laws::identity_binds) requires
@@ -40,4 +41,13 @@ pub fn opened_identity<F: ComplexExtendable, EF: ExtensionField<F>>(
     let _statement = statement;
     let _values = values;
     let _drawn = (log_chunks, alpha, zeta);
+}
+
+// An extension has a basis: elements with one coefficient 1 and the others 0.
+pub(crate) fn basis_exists<F: Field, EF: ExtensionField<F>>()
+    ensures { (basis : List _) × AreBasis F.ops EF.coefficients EF.DEGREE basis }
+{
+    for i in 0..EF::DEGREE {
+        let _element = EF::ZERO.with_coefficient(i, F::ONE);
+    }
 }

@@ -15,7 +15,7 @@
 //!   constraint, with the challenger as it was (`unsatisfied`), and it fails in no other case but
 //!   those that its page names (`reason`).
 //! - `prove_and_verify` returns a proof that was accepted, with both challengers in one state. It
-//!   fails as `prove` does (`reason`), and never because `verify` refuses (`complete`).
+//!   fails as `prove` does (`first`, `reason`), and never because `verify` refuses (`complete`).
 //! - `laws::opened_identity`: where opened values are those of columns, the identity that `verify`
 //!   tests on the values holds of the columns. It is then as `laws::identity_binds` of
 //!   `circle_quotient` requires it.
@@ -26,7 +26,7 @@
 //! - In `src/`, `verifier.rt`: `verify`. `statement.rt`: what is refused before the challenger is
 //!   seeded. `provable.rt`: a statement that passed the tests, whose type carries what is known of
 //!   its scheme and challengers. `transcript.rt`: what is drawn before the scheme's transcript.
-//!   `claims.rt`: the claims of a proof. `identity.rt`: both sides of the identity.
+//!   `claims.rt`: the claims of a proof. `identity.rt`: the identity at the drawn point.
 //!   `prover.rt`: `prove`. `trace.rt`: what is refused of a trace. `committing.rt`, `opening.rt`:
 //!   what a prover commits to and opens. `round_trip.rt`: `prove_and_verify`. `relation.rt`: what
 //!   contracts cite. `laws.rt`: the law of opened values.
@@ -45,7 +45,8 @@
 //!   `CommittedValues`: a committed trace's values on a larger domain. `ChunkSizes`, `OpenedRuns`,
 //!   `Heads`: the lists of what is committed to and opened. `OpenedClaims`: the scheme accepts what
 //!   is opened. `TrueValues`, `OpenedColumns`, `ChunkPolynomials`, `BasisSums`: it is the values of
-//!   polynomials. `HonestIdentity`: so the identity holds. `HonestRun`: all of it.
+//!   polynomials. `BasisElements`, `PointWindows`: both sides of the identity have a value.
+//!   `HonestIdentity`: so the identity holds. `HonestRun`: all of it.
 //! - In `proofs/`, of `opened_identity`: `CombinedChunks`: the value of a chunk's columns put
 //!   together. `OpenedIdentity`: the law.
 #![tactic(auto)]

@@ -1,9 +1,10 @@
 //! A prover and a verifier, one after the other.
-ghost use Rattle.std.specs.Prelude.{◌≡◌, IfErr, IfOk, OnErr, OnOk};
+ghost use Rattle.std.specs.Prelude.{◌≡◌, Err, IfErr, IfOk, OnErr, OnOk};
 ghost use Rattle.circle_air.specs.Satisfies.{Satisfies};
 ghost use Rattle.circle_commit.specs.RowMajorMatrix.{rows as rows_of};
-ghost use Rattle.circle_stark.specs.Trace.{stated, statement_by};
+ghost use Rattle.circle_stark.specs.Trace.{IfRefused, stated, statement_by};
 ghost use Rattle.circle_stark.specs.RoundTrip.{IsOfProver, unverified};
+ghost use Rattle.circle_stark.specs.declared.round_trip.StarkRoundTripError.TheVariants.{Prove};
 ghost use Rattle.circle_stark.specs.declared.round_trip.StarkRoundTripError.TheVariants.{Verify};
 
 use crate::error::{StarkError, StarkProverError};
@@ -43,7 +44,8 @@ pub enum StarkRoundTripError<OpeningError> {
 ///
 /// Returns the proof, once it is accepted; then both challengers end in one state, and the rows
 /// satisfy the constraints. Otherwise the result is the refusal of [`prove`], or `Memory`:
-/// [`verify`] refuses no proof that `prove` returned, unless out of memory.
+/// [`verify`] refuses no proof that `prove` returned, unless out of memory. A trace that `prove`
+/// refuses before the challenger is seeded leaves both challengers as they were.
 pub fn prove_and_verify<Val, EF, InputMmcs, FriMmcs, C>(
     alloc: Global,
     pcs: &CirclePcs<Val, InputMmcs, FriMmcs>,
@@ -65,6 +67,8 @@ where
         + CanObserve<InputMmcs::Commitment>
         + CanObserve<FriMmcs::Commitment>,
     requires same { C.state prover.old ≡ C.state verifier.old }
+    ensures first { IfRefused Val.CIRCLE_TWO_ADICITY pcs.now.fri_params trace.entry
+        (λ e. (result ≡ Err (Prove e)) × (prover.new ≡ prover.old) × (verifier.new ≡ verifier.old)) }
     ensures satisfied { OnOk result (Satisfies Val.ops (stated trace.entry).parts
         (rows_of trace.entry.rows) (stated trace.entry).public_values) }
     ensures accepted { let p = ⟦<CirclePcs<Val, InputMmcs, FriMmcs> as StarkRelation<EF, C>>⟧ in

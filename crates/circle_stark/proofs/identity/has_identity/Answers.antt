@@ -14,20 +14,21 @@ returns g c =
     let s = statement_of c.args.statement.now in
     let v = values_of c.args.values.now in
     let air = c.args.statement.now.air.now in
-    let sides = c.in_ok-sides.sides in
+    let composition = c.in_ok-composition.composition in
+    let quotient = c.in_ok-quotient.quotient in
     let product = g.met.EF.Field.mul_law _ _ _ c.mul.ensures
-    ∙ ap (λ x. l.mul x sides.quotient) c.vanishing_at.ensures in
+    ∙ ap (λ x. l.mul x quotient) c.vanishing_at.ensures in
     let powers = (valid (air_of air) air.valid).periods in
     let told = g.met.EF.ExtensionField.are_coefficients in
-    let composed = c.in_ok-sides.ensures.composed in
-    let recomposed = c.in_ok-sides.ensures.recomposed in
-    let same = g.met.EF.Field.eq_law sides.composition c.mul.result in (
+    let composed = c.in_ok-composition.ensures in
+    let recomposed = c.in_ok-quotient.ensures in
+    let same = g.met.EF.Field.eq_law composition c.mul.result in (
       λ holds. identity-shown k gen l m s v c.args.drawn.alpha c.args.drawn.zeta powers
           g.EF.ExtensionField.coefficients g.EF.ExtensionField.DEGREE c.args.log_chunks told
-          sides.composition sides.quotient composed recomposed
+          composition quotient composed recomposed
           (same.0 (sym c.eq.ensures ∙ holds) ∙ product),
       λ h. c.eq.ensures ∙ same.1
           (identity-told k gen l m s v c.args.drawn.alpha c.args.drawn.zeta powers
           g.EF.ExtensionField.coefficients g.EF.ExtensionField.DEGREE c.args.log_chunks told
-          sides.composition sides.quotient composed recomposed h ∙ sym product),
+          composition quotient composed recomposed h ∙ sym product),
     )

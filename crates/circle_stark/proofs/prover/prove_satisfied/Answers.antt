@@ -1,4 +1,4 @@
-use Rattle.std.proofs.Common.{inl, inr, refl, subst}
+use Rattle.std.proofs.Common.{inr, subst}
 use Rattle.circle_air.specs.Air.{air_of}
 use Rattle.circle_air.specs.Degrees.{degree_of_parts}
 use Rattle.circle_air.specs.Valid.{valid}
@@ -6,32 +6,13 @@ use Rattle.circle_stark.specs.OfProvable.{schemes_of, stated_by}
 use Rattle.circle_stark.specs.Schemes.{described}
 use Rattle.circle_stark.specs.Statement.{values_of}
 use Rattle.circle_stark.specs.Unproved.{IsUnproved}
-use Rattle.circle_stark.specs.declared.error.StarkProverError.TheVariants.{Memory}
-use Rattle.circle_stark.proofs.HonestRun.{proved, shape}
+use Rattle.circle_stark.proofs.HonestRun.{proved}
 use Rattle.circle_stark.proofs.Passing.{same-log}
 use Rattle.circle_stark.proofs.Verdicts.{refuses-with}
 use Rattle.circle_stark.proofs.prover.prove_satisfied.Goals as goal
 
 pub open_run-requires-clause-trace : goal.open_run-requires-clause-trace
 open_run-requires-clause-trace g c = (c.args.rows, c.in_ok-run.ensures.trace)
-
-pub identity_sides-requires-clause-shape : goal.identity_sides-requires-clause-shape
-identity_sides-requires-clause-shape g c =
-    let t = c.args.provable.now in
-    let o = schemes_of t in
-    let run = c.in_ok-run.run' in
-    let air = t.statement.air.now in
-    shape o.fields g.Val.Operations.laws g.EF.Operations.laws g.met.EF.ExtensionField.embedding
-    g.met.Val.ComplexExtendable.generators_law g.met.Val.ComplexExtendable.at_most_62 o.own o.words
-    g.met.C.CanSampleBits.bits_below g.met.EF.ExtensionField.are_coefficients (o.params t.pcs.now)
-    o.kept (o.Commits t.pcs.now) (o.authenticates t.pcs.now)
-    (g.FriMmcs.Mmcs.commits t.pcs.now.fri_params.mmcs) (o.word_authenticates t.pcs.now)
-    (stated_by t) t.log_chunks t.provable (valid (air_of air) air.valid) c.args.rows
-    c.requires.width c.requires.satisfied run.trace_data run.quotient_data run.trace_commitment
-    run.quotient_commitment run.drawn.alpha run.drawn.zeta c.in_ok-run.ensures.trace
-    c.in_ok-run.ensures.quotient c.in_ok-opened_values.ensures.fit
-    (values_of c.in_ok-opened_values.opened_values) c.in_ok-opened_values.opening_proof _ _
-    c.in_ok-opened_values.ensures.opened
 
 pub returns-in_err-opened_values-clause-reason : goal.returns-in_err-opened_values-clause-reason
 returns-in_err-opened_values-clause-reason g c =
@@ -59,18 +40,13 @@ returns-in_err-opened_values-clause-reason g c =
       unopened = c.in_err-opened_values.ensures.unopened;
     }))
 
-pub returns-in_err-_sides-clause-reason : goal.returns-in_err-_sides-clause-reason
-returns-in_err-_sides-clause-reason g c =
-    refuses-with _ c.from_residual-in_err-_sides.result Memory
-    c.from_residual-in_err-_sides.ensures.1 (λ kk log. inl refl)
-
 pub returns : goal.returns
 returns g c =
     let t = c.args.provable.now in
     let o = schemes_of t in
     let run = c.in_ok-run.run' in
     let air = t.statement.air.now in
-    let sides = c.in_ok-_sides._sides in
+    let basis = c.basis_exists.ensures in
     let both = proved o.fields g.Val.Operations.laws g.EF.Operations.laws
     g.met.EF.ExtensionField.embedding g.met.Val.ComplexExtendable.generators_law
     g.met.Val.ComplexExtendable.at_most_62 o.own o.words g.met.C.CanSampleBits.bits_below
@@ -81,7 +57,6 @@ returns g c =
     run.quotient_data run.trace_commitment run.quotient_commitment run.drawn.alpha run.drawn.zeta
     c.in_ok-run.ensures.trace c.in_ok-run.ensures.quotient c.in_ok-opened_values.ensures.fit
     (values_of c.in_ok-opened_values.opened_values) c.in_ok-opened_values.opening_proof _ _
-    c.in_ok-opened_values.ensures.opened c.in_ok-opened_values.ensures.next sides.composition
-    sides.quotient c.in_ok-_sides.ensures.composed c.in_ok-_sides.ensures.recomposed
+    c.in_ok-opened_values.ensures.opened c.in_ok-opened_values.ensures.next basis.0 basis.1
     (described o (stated_by t)) _ c.in_ok-run.ensures.drawn in
     record { reason = tt {0}; accepted = both.0; values = both.1 }

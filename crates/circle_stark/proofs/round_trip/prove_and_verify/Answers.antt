@@ -1,4 +1,5 @@
-use Rattle.std.proofs.Common.{◌∙◌, ℕ, ap, subst, sym}
+use Rattle.std.specs.Prelude.{Err}
+use Rattle.std.proofs.Common.{◌∙◌, ℕ, ap, refl, subst, sym}
 use Rattle.circle_air.specs.Air.{air_of}
 use Rattle.circle_challenger.specs.Moves.{RunMoves, run_moves}
 use Rattle.circle_field.specs.Field.{of_nat}
@@ -7,7 +8,9 @@ use Rattle.circle_stark.specs.Accepts.{StarkAccepts}
 use Rattle.circle_stark.specs.Statement.{Statement, described_by, proved_of}
 use Rattle.circle_stark.specs.Trace.{stated}
 use Rattle.circle_stark.specs.RoundTrip.{IsOfProver, unverified}
-use Rattle.circle_stark.proofs.Verdicts.{accepted-state, never-verify}
+use Rattle.circle_stark.specs.declared.round_trip.StarkRoundTripError.TheVariants.{Prove}
+use Rattle.circle_stark.proofs.TracePassing.{NeedsNoMemory, of-refused, one-refusal}
+use Rattle.circle_stark.proofs.Verdicts.{accepted-state, never-verify, ok-err}
 use Rattle.circle_stark.proofs.round_trip.prove_and_verify.Given
 use Rattle.circle_stark.proofs.round_trip.prove_and_verify.Goals as goal
 
@@ -44,6 +47,30 @@ words g = run_moves g.C.ChallengerState.state g.C.CanObserve-1.after_observe
 
 pub log2_strict-requires : goal.log2_strict-requires
 log2_strict-requires g c = (_, c.height-height.ensures ∙ c.in-Ok.ensures.height)
+
+pub returns-in-Err-Memory-clause-first : goal.returns-in-Err-Memory-clause-first
+returns-in-Err-Memory-clause-first g c =
+    of-refused g.Val.ComplexExtendable.CIRCLE_TWO_ADICITY c.args.pcs.now.fri_params c.args.trace _ _
+    (λ e none first.
+    let same = one-refusal c.prove.result c.in-Err-Memory.field-0 e c.in-Err-Memory.is first.0 in
+    absurd (subst NeedsNoMemory (sym same ∙ c.in-Err-Memory.field-0-is) none))
+    c.prove.ensures.first
+
+pub returns-in-Err-clause-first : goal.returns-in-Err-clause-first
+returns-in-Err-clause-first g c =
+    of-refused g.Val.ComplexExtendable.CIRCLE_TWO_ADICITY c.args.pcs.now.fri_params c.args.trace _ _
+    (λ e none first. (
+      ap (λ d. Err (Prove d)) (one-refusal c.prove.result c.in-Err.error e c.in-Err.is first.0),
+      first.1,
+      refl,
+    ))
+    c.prove.ensures.first
+
+pub returns-in-Ok-verify-clause-first : goal.returns-in-Ok-verify-clause-first
+returns-in-Ok-verify-clause-first g c =
+    of-refused g.Val.ComplexExtendable.CIRCLE_TWO_ADICITY c.args.pcs.now.fri_params c.args.trace _ _
+    (λ e none first. absurd (ok-err c.prove.result c.in-Ok.proof e c.in-Ok.is first.0))
+    c.prove.ensures.first
 
 pub returns-in-Ok-verify-clause-states : goal.returns-in-Ok-verify-clause-states
 returns-in-Ok-verify-clause-states g c =
@@ -94,6 +121,11 @@ returns-in-Err-verify g c =
           c.in-Ok.ensures.accepted),
     ) in
     let is = sym (ap unverified memory) ∙ sym c.unverified.ensures in record {
+      first =
+          of-refused g.Val.ComplexExtendable.CIRCLE_TWO_ADICITY c.args.pcs.now.fri_params
+          c.args.trace _ _
+          (λ e none first. absurd (ok-err c.prove.result c.in-Ok.proof e c.in-Ok.is first.0))
+          c.prove.ensures.first;
       satisfied = tt;
       accepted = tt;
       values = tt;

@@ -1,10 +1,11 @@
 use Rattle.std.proofs.Common.{◌≡◌, ◌<◌, ◌∙◌, [], ap, arith, length, map, subst, sym}
 use Rattle.std.proofs.Common.{slice_index_or, vec_len}
 use Rattle.std.proofs.lemmas.List.{get_or-map, length-map}
+use Rattle.std.proofs.lemmas.Result.{IfOk-weaker}
 use Rattle.circle_domain.proofs.Powers.{pow_injective}
 use Rattle.circle_point.specs.Projective.{from_line}
 use Rattle.circle_quotient.specs.Recomposition.{IsRecomposed}
-use Rattle.circle_stark.proofs.identity.identity_sides.Goals as goal
+use Rattle.circle_stark.proofs.identity.quotient_at.Goals as goal
 
 pub recompose_quotient-requires-clause-in_group : goal.recompose_quotient-requires-clause-in_group
 recompose_quotient-requires-clause-in_group g c = λ k count.
@@ -24,14 +25,16 @@ recompose_quotient-requires-clause-widths g c = λ i d below.
     ∙ omega (arith, (slice_index_or chunks i d).ok)
     ∙ ap length (sym (get_or-map (λ v. v.items) chunks i d [] there)) ∙ wide
 
-pub returns-clause-recomposed : goal.returns-clause-recomposed
-returns-clause-recomposed g c =
+pub returns : goal.returns
+returns g c =
     let chunks = c.args.values.now.quotient_chunks.items in
     let count = ap length c.deref.ensures.value ∙ sym (length-map chunks (λ v. v.items))
     ∙ c.requires.shape.chunks in
-    subst
-    (λ cs. IsRecomposed g.F.Operations.ops g.F.ComplexExtendable.generators g.EF.Operations.ops
+    let Recomposed = λ (cs : _).
+    IsRecomposed g.F.Operations.ops g.F.ComplexExtendable.generators g.EF.Operations.ops
     g.EF.ExtensionField.embed g.EF.ExtensionField.coefficients g.EF.ExtensionField.DEGREE
     c.args.statement.now.log_n c.args.log_chunks (map (λ v. v.items) cs)
-    (from_line g.EF.Operations.ops c.args.drawn.zeta) c.in_ok-quotient.quotient)
-    c.deref.ensures.value (c.in_ok-quotient.ensures c.args.log_chunks count)
+    (from_line g.EF.Operations.ops c.args.zeta) in
+    IfOk-weaker c.recompose_quotient.result _ (Recomposed chunks)
+    (λ v is. subst (λ cs. Recomposed cs v) c.deref.ensures.value (is c.args.log_chunks count))
+    c.recompose_quotient.ensures
