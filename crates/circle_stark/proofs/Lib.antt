@@ -15,6 +15,7 @@ pub mod OpenedIdentity
 pub mod OpenedRuns
 pub mod Passing
 pub mod PointWindows
+pub mod RoundTrips
 pub mod Selecting
 pub mod TracePassing
 pub mod TrueValues

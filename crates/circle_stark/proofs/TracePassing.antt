@@ -3,7 +3,7 @@ use Rattle.std.specs.Prelude.{◌≡◌, ℕ, ◌^◌, ◌<◌, ◌==◌, Bool, 
 use Rattle.std.specs.Prelude.{[], ◌∷◌, Err, IfErr, Ok, Result}
 use Rattle.std.specs.Int.{is_power_of_two}
 use Rattle.std.specs.List.{AllByRecursion}
-use Rattle.std.proofs.Common.{◌∙◌, ap, sym}
+use Rattle.std.proofs.Common.{◌∙◌, ap, refl, sym}
 use Rattle.std.proofs.lemmas.Result.{IfErr-at_err}
 use Rattle.circle_air.specs.Degrees.{IsLogOfChunks, degree_of_parts}
 use Rattle.circle_codewords.specs.Requests.{log_of}
@@ -13,10 +13,10 @@ use Rattle.circle_prover.specs.Requesting.{is_unfit}
 use Rattle.circle_relation.specs.TestsInOrder.{Test, answer}
 use Rattle.circle_relation.proofs.Answering.{answer-none, passing, skipped}
 use Rattle.circle_stark.specs.Provable.{IsProvable}
+use Rattle.circle_stark.specs.RoundTrip.{is_memory}
 use Rattle.circle_stark.specs.Statement.{Statement}
 use Rattle.circle_stark.specs.Trace.{IfRefused, shape_tests, size_tests, tests_of_trace}
 use Rattle.circle_stark.specs.declared.error.StarkProverError.{StarkProverError}
-use Rattle.circle_stark.specs.declared.error.StarkProverError.TheVariants.{Memory}
 use Rattle.circle_stark.specs.declared.trace.StarkTrace.{StarkTrace}
 use Rattle.circle_stark.proofs.Passing.{provable, same_count}
 
@@ -42,19 +42,17 @@ if-both : {A Error : Type 0} (r : Result A Error) (P Q R : Error → Type 0) →
 if-both (Ok value) P Q R then p q = tt
 if-both (Err e) P Q R then p q = then e p q
 
--- the refusal isn't want of memory
-abbrev pub NeedsNoMemory : StarkProverError → Type 0
-NeedsNoMemory Memory = ⊥
-NeedsNoMemory _ = Unit {0}
-
--- what is said of the first refusal of a trace, which is none for want of memory
+-- what is said of the first refusal of a trace, which is never `Memory`
 pub of-refused : {F M : Type 0} (two_adicity : ℕ) (params : FriParameters M) (t : StarkTrace F)
-    (P Q : StarkProverError → Type 0) → ((e : StarkProverError) → NeedsNoMemory e → P e → Q e) →
+    (P Q : StarkProverError → Type 0) →
+    ((e : StarkProverError) → is_memory e ≡ false → P e → Q e) →
     IfRefused two_adicity params t P → IfRefused two_adicity params t Q
 of-refused two_adicity params t P Q then first = λ k log.
     let tests = tests_of_trace two_adicity params k t in
-    if-both (answer tests (tt {0})) NeedsNoMemory P Q then
-    (of-first NeedsNoMemory tests (tt, (tt, (tt, (tt, (tt, (tt, (tt, tt)))))))) (first k log)
+    let NoMemory = λ (e : StarkProverError). is_memory e ≡ false in
+    if-both (answer tests (tt {0})) NoMemory P Q then
+    (of-first NoMemory tests (refl, (refl, (refl, (refl, (refl, (refl, (refl, tt))))))))
+    (first k log)
 
 -- a result is one refusal
 pub one-refusal : {A : Type 0} (r : Result A StarkProverError) (d e : StarkProverError) →

@@ -1,6 +1,6 @@
 -- A run draws one alpha, one zeta and one state, so what is found of them settles the verdict.
 use Rattle.std.specs.Prelude.{◌≡◌, ℕ, List, Bool, true, false, if◌then◌else◌, Ok, Err, Result}
-use Rattle.std.specs.Prelude.{IfErr, IsErrAnd, MatchResult}
+use Rattle.std.specs.Prelude.{IfErr, IfOk, IsErrAnd, MatchResult}
 use Rattle.std.proofs.Common.{◌∙◌, sym, ap, subst}
 use Rattle.std.proofs.lemmas.Bool.{false≢true}
 use Rattle.circle_air.specs.Degrees.{IsLogOfChunks, degree_of_parts}
@@ -26,9 +26,6 @@ use Rattle.circle_stark.specs.Statement.{Proved, Statement}
 use Rattle.circle_stark.specs.Verdict.{IsRefusedFor, refusal_of}
 use Rattle.circle_stark.specs.declared.error.StarkError.{StarkError}
 use Rattle.circle_stark.specs.declared.error.StarkError.TheVariants.{InvalidOpening, Memory}
-use Rattle.circle_stark.specs.declared.round_trip.StarkRoundTripError.{StarkRoundTripError}
-use Rattle.circle_stark.specs.declared.round_trip.StarkRoundTripError.TheVariants.{Verify}
-use Rattle.circle_stark.specs.declared.round_trip.StarkRoundTripError.TheVariants.{Memory as OutOfRoom}
 use Rattle.p3_circle.specs.Scheme.{IsFirstFrom, says_memory}
 
 -- a run that draws alpha, pauses between, and draws zeta
@@ -118,7 +115,7 @@ module _ {C S F E M IC WC IP WP : Type 0} (k : Fields F E) (params : FriParamete
       ≡ drawn_by r.base.coefficients one.drawn t = cc in
       ap (λ x. x.state) same
 
-refused-by : {A : Type 0} (P : A → Type 0) (b : Bool) (x y : A) → P x → P y →
+pub refused-by : {A : Type 0} (P : A → Type 0) (b : Bool) (x y : A) → P x → P y →
     P (if b then x else y)
 refused-by P true x y p q = p
 refused-by P false x y p q = q
@@ -207,7 +204,8 @@ pub refuses-with : {A Err : Type 0} (P : Err → Type 0) (r : Result A Err) (e :
 refuses-with P (Ok x) e same here = absurd same
 refuses-with P (Err y) e same here = subst P (sym same) here
 
--- want of memory is no refusal of the verifier's
-pub never-verify : {Error : Type 0} (error : StarkError Error) →
-    ◌≡◌ {A = StarkRoundTripError Error} OutOfRoom (Verify error) → ⊥
-never-verify error same = absurd (cc)
+-- nothing is said of the value of a refusal
+pub refused-ok : {A Err : Type 0} (P : A → Type 0) (r : Result A Err) (e : Err) →
+    IsErrAnd r (λ y. y ≡ e) → IfOk r P
+refused-ok P (Ok x) e same = absurd same
+refused-ok P (Err y) e same = tt

@@ -1,9 +1,11 @@
 //! Why a proof is refused, and why there is none.
 ghost use Rattle.std.specs.Prelude.{◌≡◌};
+ghost use Rattle.circle_stark.specs.Verdict.{refusal_of};
 ghost use Rattle.circle_stark.specs.declared.error.StarkError.TheVariants.{Memory};
 ghost use Rattle.circle_stark.specs.declared.error.StarkProverError.TheVariants.{Memory as OutOfMemory};
 
-use circle_commit::PowPhase;
+use circle_commit::{FriError, PowPhase};
+use circle_relation::VerifierError;
 use std::alloc::AllocError;
 use std::fmt::Display;
 use thiserror::Error;
@@ -88,6 +90,17 @@ impl<OpeningError> From<AllocError> for StarkError<OpeningError> {
 
     fn from(_refused: AllocError) -> StarkError<OpeningError> {
         StarkError::Memory
+    }
+}
+
+impl<I, W> From<VerifierError<I, W>> for StarkError<VerifierError<I, W>> {
+    ghost from_gives = { λ error e. e ≡ refusal_of error };
+
+    fn from(error: VerifierError<I, W>) -> StarkError<VerifierError<I, W>> {
+        match error {
+            FriError::Memory => StarkError::Memory,
+            error => StarkError::InvalidOpening(error),
+        }
     }
 }
 

@@ -3,7 +3,7 @@ ghost use Rattle.std.specs.Prelude.{◌≡◌, Err, IfErr, IfOk, OnErr, OnOk};
 ghost use Rattle.circle_air.specs.Satisfies.{Satisfies};
 ghost use Rattle.circle_commit.specs.RowMajorMatrix.{rows as rows_of};
 ghost use Rattle.circle_stark.specs.Trace.{IfRefused, stated, statement_by};
-ghost use Rattle.circle_stark.specs.RoundTrip.{IsOfProver, unverified};
+ghost use Rattle.circle_stark.specs.RoundTrip.{IsOfProver, unproved, unverified};
 ghost use Rattle.circle_stark.specs.declared.round_trip.StarkRoundTripError.TheVariants.{Prove};
 ghost use Rattle.circle_stark.specs.declared.round_trip.StarkRoundTripError.TheVariants.{Verify};
 
@@ -37,6 +37,28 @@ pub enum StarkRoundTripError<OpeningError> {
     /// Memory was refused.
     #[error("out of memory")]
     Memory,
+}
+
+impl<OpeningError> From<StarkProverError> for StarkRoundTripError<OpeningError> {
+    ghost from_gives = { λ error e. e ≡ unproved error };
+
+    fn from(error: StarkProverError) -> StarkRoundTripError<OpeningError> {
+        match error {
+            StarkProverError::Memory => StarkRoundTripError::Memory,
+            error => StarkRoundTripError::Prove(error),
+        }
+    }
+}
+
+impl<OpeningError> From<StarkError<OpeningError>> for StarkRoundTripError<OpeningError> {
+    ghost from_gives = { λ error e. e ≡ unverified error };
+
+    fn from(error: StarkError<OpeningError>) -> StarkRoundTripError<OpeningError> {
+        match error {
+            StarkError::Memory => StarkRoundTripError::Memory,
+            error => StarkRoundTripError::Verify(error),
+        }
+    }
 }
 
 /// Proves that the rows of a trace satisfy its AIR, and verifies the proof, by two challengers that
@@ -84,26 +106,13 @@ where
     let height = trace.rows.height();
     let proof = match prove(alloc, pcs, trace, prover) {
         Ok(proof) => proof,
-        Err(StarkProverError::Memory) => return Err(StarkRoundTripError::Memory),
-        Err(error) => return Err(StarkRoundTripError::Prove(error)),
+        Err(error) => return Err(StarkRoundTripError::from(error)),
     };
     let statement = StarkStatement {
         air,
         log_n: log2_strict(height),
         public_values,
     };
-    match verify(alloc, pcs, statement, &proof, verifier) {
-        Ok(()) => Ok(proof),
-        Err(error) => Err(unverified(error)),
-    }
-}
-
-// The refusal by which that of the verifier is returned.
-fn unverified<E>(error: StarkError<E>) -> StarkRoundTripError<E>
-    ensures { result ≡ unverified error }
-{
-    match error {
-        StarkError::Memory => StarkRoundTripError::Memory,
-        error => StarkRoundTripError::Verify(error),
-    }
+    verify(alloc, pcs, statement, &proof, verifier)?;
+    Ok(proof)
 }

@@ -5,7 +5,6 @@ ghost use Rattle.circle_stark.specs.OfProvable.{Accepts, Draws, Holds, Refuses, 
 ghost use Rattle.circle_stark.specs.Provable.{HasShape, IsProvable};
 ghost use Rattle.circle_stark.specs.Refusals.{IsFirstRefusal, IsTested, stark_tests};
 ghost use Rattle.circle_stark.specs.Statement.{statement_of, values_of};
-ghost use Rattle.circle_stark.specs.Verdict.{refusal_of};
 ghost use Rattle.circle_stark.specs.declared.error.StarkError.TheVariants.{Memory};
 
 use crate::claims::{OpenedPoints, claims_of};
@@ -17,7 +16,7 @@ use crate::relation::StarkRelation;
 use crate::statement::{validate_values, validated_log_chunks};
 use crate::transcript::constraint_challenge;
 use circle_challenger::{CanObserve, CanSample, GrindingChallenger};
-use circle_commit::{FriError, FriParameters, Mmcs};
+use circle_commit::{FriParameters, Mmcs};
 use circle_field::{ComplexExtendable, ElementBytes, ExtensionField};
 use circle_quotient::fit::is_fit;
 use circle_relation::VerifierError;
@@ -60,16 +59,6 @@ where
     let alpha = run.alpha;
     let zeta = run.out_of_domain_point(challenger, quotient);
     Ok(Challenges { alpha, zeta })
-}
-
-// The refusal by which that of the scheme is returned.
-fn refusal_of<I, W>(error: VerifierError<I, W>) -> StarkError<VerifierError<I, W>>
-    ensures { result ≡ refusal_of error }
-{
-    match error {
-        FriError::Memory => StarkError::Memory,
-        error => StarkError::InvalidOpening(error),
-    }
 }
 
 // The binary logarithm of the number of chunks of a statement whose proof can be judged. Refuses
@@ -139,13 +128,8 @@ where
         None => return Err(StarkError::UnfitPoint),
     };
     let claims = claims_of(alloc, log_n, proof, OpenedPoints { zeta, next })?;
-    match provable
-        .pcs
-        .verify(alloc, claims, &proof.opening_proof, challenger)
-    {
-        Ok(()) => {}
-        Err(error) => return Err(refusal_of(error)),
-    }
+    let pcs = provable.pcs;
+    pcs.verify(alloc, claims, &proof.opening_proof, challenger)?;
     let (statement, log_chunks) = (&provable.statement, provable.log_chunks);
     if !has_identity(alloc, statement, log_chunks, &proof.opened_values, drawn)? {
         return Err(StarkError::OodEvaluationMismatch);

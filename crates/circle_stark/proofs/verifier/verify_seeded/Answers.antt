@@ -1,11 +1,12 @@
-use Rattle.std.proofs.Common.{◌∙◌, refl, subst, sym}
+use Rattle.std.proofs.Common.{refl}
 use Rattle.circle_relation.specs.StatementOf.{batch_claims}
 use Rattle.circle_stark.specs.OfProvable.{fields_of, stated_by}
 use Rattle.circle_stark.specs.Statement.{proved_of}
-use Rattle.circle_stark.specs.Verdict.{IsRefusedFor}
+use Rattle.circle_stark.specs.Verdict.{IsRefusedFor, refusal_of}
+use Rattle.circle_stark.specs.declared.error.StarkError.TheVariants.{Memory}
 use Rattle.circle_stark.proofs.Verdicts.{accepted-fit, accepted-identity, accepted-opens}
 use Rattle.circle_stark.proofs.Verdicts.{accepts-of, claims-follow, memory-for, opens-of}
-use Rattle.circle_stark.proofs.Verdicts.{refused-for}
+use Rattle.circle_stark.proofs.Verdicts.{refused-for, refuses-with}
 use Rattle.circle_stark.proofs.verifier.verify_seeded.Goals as goal
 
 pub returns-in-None-clause-complete : goal.returns-in-None-clause-complete
@@ -25,23 +26,28 @@ returns-in-None-clause-reason g c = record {
       cc;
 }
 
-pub returns-in-Err-clause-complete : goal.returns-in-Err-clause-complete
-returns-in-Err-clause-complete g c = λ h.
+pub returns-in_err-verify-clause-complete : goal.returns-in_err-verify-clause-complete
+returns-in_err-verify-clause-complete g c =
     let t = c.args.provable.now in
+    let e = c.in_err-verify.field-0.0 in
+    refuses-with _ c.from_residual-in_err-verify.result (refusal_of e)
+    c.from_residual-in_err-verify.ensures.1
+    (λ h.
     let opens = accepted-opens _ _ _ _ _ _ g.met.EF.ExtensionField.are_coefficients.determined _ _ _
     _ _ _ _ c.in_ok-drawn.ensures.drawn h.0 h.1 in
-    c.refusal_of.ensures
-    ∙ memory-for c.in-Err.error
-    (c.in-Err.ensures.complete h.0
+    memory-for e
+    (c.in_err-verify.ensures.complete h.0
     (accepts-of (fields_of t) (stated_by t) (proved_of c.args.proof.now)
     c.in_ok-drawn.drawn.zeta c.in-Some.next c.in-Some.ensures.next
-    (batch_claims c.in_ok-claims.claims.items) c.in_ok-claims.ensures _ _ _ _ _ _ opens))
+    (batch_claims c.in_ok-claims.claims.items) c.in_ok-claims.ensures _ _ _ _ _ _ opens)))
 
-pub returns-in-Err-clause-reason : goal.returns-in-Err-clause-reason
-returns-in-Err-clause-reason g c =
+pub returns-in_err-verify-clause-reason : goal.returns-in_err-verify-clause-reason
+returns-in_err-verify-clause-reason g c =
     let t = c.args.provable.now in
-    subst (IsRefusedFor _ _ _ _ _ _ _ _ _ _ _ _ _) (sym c.refusal_of.ensures)
-    (refused-for (IsRefusedFor _ _ _ _ _ _ _ _ _ _ _ _ _) c.in-Err.error (tt {0}) record {
+    let e = c.in_err-verify.field-0.0 in
+    refuses-with _ c.from_residual-in_err-verify.result (refusal_of e)
+    c.from_residual-in_err-verify.ensures.1
+    (refused-for (IsRefusedFor _ _ _ _ _ _ _ _ _ _ _ _ _) e (tt {0}) record {
       alpha = c.in_ok-drawn.drawn.alpha;
       zeta = c.in_ok-drawn.drawn.zeta;
       between = _;
@@ -54,9 +60,14 @@ returns-in-Err-clause-reason g c =
             (proved_of c.args.proof.now) c.in_ok-drawn.drawn.zeta c.in-Some.next
             c.in-Some.ensures.next (batch_claims c.in_ok-claims.claims.items)
             c.in_ok-claims.ensures;
-        refused = c.in-Err.ensures.reason;
+        refused = c.in_err-verify.ensures.reason;
       };
     })
+
+pub returns-in_err-has_identity-clause-complete : goal.returns-in_err-has_identity-clause-complete
+returns-in_err-has_identity-clause-complete g c =
+    refuses-with _ c.from_residual-in_err-has_identity.result Memory
+    c.from_residual-in_err-has_identity.ensures.1 (λ h. refl)
 
 pub returns-then-not-branch-clause-complete : goal.returns-then-not-branch-clause-complete
 returns-then-not-branch-clause-complete g c = λ h.
@@ -78,7 +89,7 @@ returns-then-not-branch-clause-reason g c = let t = c.args.provable.now in recor
       opens-of (fields_of t) (stated_by t) (proved_of c.args.proof.now)
       c.in_ok-drawn.drawn.zeta c.in-Some.next c.in-Some.ensures.next
       (batch_claims c.in_ok-claims.claims.items) c.in_ok-claims.ensures _ _ _ _ _ _
-      c.in-Ok.ensures.accepted;
+      c.in_ok-verify.ensures.accepted;
   mismatch = λ h.
       let holds = c.in_ok-has_identity.ensures.1 h in
       let fails = c.if-not-branch.true in
@@ -99,7 +110,7 @@ returns-clause-accepted g c = let t = c.args.provable.now in record {
       opens-of (fields_of t) (stated_by t) (proved_of c.args.proof.now)
       c.in_ok-drawn.drawn.zeta c.in-Some.next c.in-Some.ensures.next
       (batch_claims c.in_ok-claims.claims.items) c.in_ok-claims.ensures _ _ _ _ _ _
-      c.in-Ok.ensures.accepted;
+      c.in_ok-verify.ensures.accepted;
   identity =
       let passes = c.if-not-branch.false in
       c.in_ok-has_identity.ensures.0 (cc);
