@@ -1,0 +1,116 @@
+-- One matrix at one point: what is kept of it, what is opened, and the claims on that.
+use Rattle.std.specs.Prelude.{◌≡◌, ℕ, ◌≤◌, List, [], ◌∷◌, length, map, All, Vec}
+use Rattle.std.specs.List.{AllZip}
+use Rattle.std.specs.declared.alloc.Global.{Global}
+use Rattle.std.proofs.Common.{◌∙◌, ap, arith, refl, subst, sym}
+use Rattle.std.proofs.lemmas.List.{length-map}
+use Rattle.std.proofs.lemmas.List.Elements.{All-cons, All-nil}
+use Rattle.circle_commit.specs.Claims.{batch_claimed, batch_told, lists}
+use Rattle.circle_commit.specs.DotProduct.{pairwise}
+use Rattle.circle_commit.specs.Honest.{AreAnsweredBy, HaveValues, requested_points}
+use Rattle.circle_commit.specs.Kept.{AreKept}
+use Rattle.circle_commit.specs.Pcs.{Openings}
+use Rattle.circle_commit.specs.declared.claims.CommittedBatch.{CommittedBatch}
+use Rattle.circle_commit.specs.declared.pcs.CommitmentOpening.{CommitmentOpening}
+use Rattle.circle_commit.specs.declared.pcs.OpeningRequest.{OpeningRequest}
+use Rattle.circle_round_trip.proofs.Batches.{AskFor, are-answered, have-answers}
+use Rattle.circle_round_trip.specs.RoundTrip.{AreCommitted, HasPoints}
+use Rattle.circle_round_trip.specs.declared.any_scheme.BatchAtPoints.{BatchAtPoints}
+use Rattle.circle_round_trip.specs.declared.any_scheme.Committed.{Committed}
+
+-- a list of one point, in a list of one
+pub one-point : {E : Type 0} (outer : Vec (Vec E Global) Global) (inner : Vec E Global)
+    (point : E) → outer.items ≡ inner ∷ [] → inner.items ≡ point ∷ [] →
+    lists outer ≡ (point ∷ []) ∷ []
+one-point outer inner point one is =
+    ap (λ vs. map (λ v. v.items) vs) one ∙ ap (λ v. v ∷ []) is
+
+-- a list of one
+only : {A : Type 0} (xs : List A) → length xs ≡ 1 → (x : A) × (xs ≡ x ∷ [])
+only [] long = absurd (omega (arith, long))
+only (x ∷ []) long = (x, refl)
+only (x ∷ y ∷ xs) long = absurd (omega (arith, long))
+
+module _ {E : Type 0} (point : E) where
+  -- of one matrix at one point there is a row
+  one-matrix : (values : List (List (List E))) →
+      AllZip (λ points vs. length vs ≡ length points) ((point ∷ []) ∷ []) values →
+      (row : List E) × (values ≡ (row ∷ []) ∷ [])
+  one-matrix [] have = absurd have
+  one-matrix (vs ∷ ws ∷ values) have = absurd have.1
+  one-matrix (vs ∷ []) have =
+      let one = only vs have.0 in (one.0, ap (λ v. v ∷ []) one.1)
+
+  pub one-row : {Data : Type 0} (request : OpeningRequest Data E) (values : Openings E) →
+      requested_points request ≡ (point ∷ []) ∷ [] → HaveValues (request ∷ []) values →
+      (row : List E) × (values ≡ ((row ∷ []) ∷ []) ∷ [])
+  one-row request [] asked have = absurd have
+  one-row request (v ∷ w ∷ values) asked have = absurd have.1
+  one-row request (v ∷ []) asked have =
+      let one =
+      one-matrix v
+      (subst (λ ps. AllZip (λ points vs. length vs ≡ length points) ps v) asked have.0) in
+      (one.0, ap (λ v. v ∷ []) one.1)
+
+module _ {E Com Data Dom M : Type 0} (commits : List (Dom × M) → Com → Data → Type 0)
+    (given : Dom × M) (point : E) (batch : Vec (Dom × M) Global)
+    (known : CommittedBatch E Com Dom) (stored : Data) (request : OpeningRequest Data E)
+    (is : batch.items ≡ given ∷ []) (committed : commits batch.items known.commitment stored)
+    (domains : known.domains.items ≡ given.0 ∷ [])
+    (points : lists known.points ≡ (point ∷ []) ∷ [])
+    (kept : request.prover_data.now ≡ stored)
+    (asked : requested_points request ≡ (point ∷ []) ∷ []) where
+  at-point : BatchAtPoints E Dom M
+  at-point = record { evaluations = batch; points = known.points }
+
+  seen : Committed E Com Data Dom
+  seen = record { known = known; prover_data = stored }
+
+  has-points : All HasPoints (at-point ∷ [])
+  has-points =
+      let many = ap length points in
+      let each = length-map known.points.items (λ v. v.items) in
+      let one = ap length is in
+      All-cons HasPoints at-point []
+      record {
+        each = omega (arith, many, each, one);
+        some = subst (All (λ ps. 1 ≤ length ps)) (sym points)
+            (All-cons (λ ps. 1 ≤ length ps) (point ∷ []) [] (omega arith)
+            (All-nil (λ ps. 1 ≤ length ps)));
+      }
+      (All-nil HasPoints)
+
+  is-committed : AreCommitted commits (at-point ∷ []) (seen ∷ [])
+  is-committed = (
+    record {
+      committed = committed;
+      domains = domains ∙ ap (λ ms. map (λ m. m.0) ms) (sym is);
+      points = refl;
+    },
+    tt,
+  )
+
+  asks : AskFor (seen ∷ []) (request ∷ [])
+  asks = record {
+    kept = ap (λ d. d ∷ []) kept;
+    points = ap (λ ps. ps ∷ []) (asked ∙ sym points);
+  }
+
+  -- the claims are of what is opened
+  pub answered : (size : Dom → ℕ) (values : Openings E)
+      (claims : List (CommitmentOpening E Com Dom)) → HaveValues (request ∷ []) values →
+      map batch_told claims ≡ pairwise batch_claimed (known ∷ []) values →
+      AreAnsweredBy size commits (request ∷ []) values claims
+  answered size values claims have told =
+      are-answered commits size (at-point ∷ []) (seen ∷ []) (request ∷ []) values claims has-points
+      is-committed asks
+      (have-answers commits (at-point ∷ []) (seen ∷ []) (request ∷ []) values has-points
+      is-committed asks have) told
+
+-- what is kept of a batch can be opened
+pub kept-one : {E B Com Data : Type 0} (commits : B → Com → Data → Type 0)
+    (request : OpeningRequest Data E) (batch : B) (commitment : Com) →
+    commits batch commitment request.prover_data.now → AreKept commits (request ∷ [])
+kept-one {B = B} {Com = Com} commits request batch commitment committed =
+    let Kept = λ r. (b : B) × (c : Com) × commits b c r.prover_data.now in
+    All-cons Kept request [] (batch, commitment, committed) (All-nil Kept)
