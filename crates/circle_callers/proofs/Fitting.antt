@@ -6,6 +6,7 @@ use Rattle.std.specs.Int.Count.{ones_step}
 use Rattle.std.proofs.Common.{◌∙◌, ap, arith, eq-eqb, refl, subst, suc, sym, zero, ⊎_elim}
 use Rattle.std.proofs.Math.Nat.{pow-suc}
 use Rattle.std.proofs.lemmas.Bool.{le-ltb, lt-leb}
+use Rattle.std.proofs.lemmas.Nat.{pow_pos}
 use Rattle.std.proofs.lemmas.List.FromFn.{length-map-range_with_len}
 use Rattle.circle_air.specs.Degrees.{IsLogOfChunks, degree_of_parts}
 use Rattle.circle_air.specs.Parts.{Parts}
@@ -15,6 +16,8 @@ use Rattle.circle_air.specs.declared.node.Place.TheVariants.{First}
 use Rattle.circle_airs.specs.Fibonacci.{at, fibonacci_parts, fibonacci_row, fibonacci_rows}
 use Rattle.circle_callers.specs.Sums.{Fits}
 use Rattle.circle_callers.specs.Unlucky.{IsUnlucky}
+use Rattle.circle_codewords.proofs.Logs.{log_of-power}
+use Rattle.circle_codewords.specs.Requests.{log_of}
 use Rattle.circle_commit.specs.RowMajorMatrix.{height_of, length-rows, rows, rows-width, width_of}
 use Rattle.circle_commit.specs.declared.matrix.RowMajorMatrix.{RowMajorMatrix}
 use Rattle.circle_commit.specs.declared.params.FriParameters.{FriParameters}
@@ -125,6 +128,21 @@ module _ {F M : Type 0} (params : FriParameters M) (s : Statement F) (n width he
       (λ r. MatchResult r (λ passed. Otherwise 1 e) (λ first. (e ≡ first) × (new ≡ old))) passes
       (refused 1 (subst (λ (p : Parts F). IsLogOfChunks (degree_of_parts p) 1) (sym parts) chunks))
 
+-- the logarithm of so many rows
+pub log-is : {M : Type 0} (params : FriParameters M) (height n : ℕ) → height ≡ 2 ^ n →
+    Fits params n → log_of height ≡ n
+log-is params height n high fits =
+    let extended = fits.extended in
+    ap log_of high ∙ log_of-power n (omega (arith, extended))
+
+-- rows satisfy equal constraints and public values
+pub still-satisfied : {F : Type 0} (k : FieldOps F) (p : Parts F) (x : List (List F))
+    (public other : List F) → p ≡ fibonacci_parts → other ≡ public →
+    Satisfies k fibonacci_parts x public → Satisfies k p x other
+still-satisfied k p x public other parts same holds =
+    subst (λ q. Satisfies k q x other) (sym parts)
+    (subst (λ v. Satisfies k fibonacci_parts x v) (sym same) holds)
+
 -- rows that satisfy the constraints have no violation
 not-violated : {F : Type 0} (k : FieldOps F) (p : Parts F) (x : List (List F)) (public : List F)
     (v : Violation) → Satisfies k p x public → IsFirstViolation k p x public v → ⊥
@@ -162,17 +180,20 @@ unlucky o pcs s kk x old new e holds why =
     (λ run. unopened _ _ _ _ run.1.trace_data run.1.quotient_data run.1.zeta _ _ e
     run.1.unopened) other) why
 
-module _ {F : Type 0} (k : FieldOps F) (a b : F) (n : ℕ) (m : RowMajorMatrix F)
-    (made : rows m ≡ fibonacci_rows k a b n) where
+module _ {F : Type 0} (k : FieldOps F) (a b : F) where
   -- a table of the sequence has so many rows
-  pub height-is : height_of m ≡ n
-  height-is =
-      sym (length-rows m) ∙ ap length made ∙ length-map-range_with_len (fibonacci_row k a b) 0 n
+  pub height-is : (height : ℕ) (m : RowMajorMatrix F) → rows m ≡ fibonacci_rows k a b height →
+      height_of m ≡ height
+  height-is height m made =
+      sym (length-rows m) ∙ ap length made
+      ∙ length-map-range_with_len (fibonacci_row k a b) 0 height
 
   -- of two entries
-  pub width-is : 1 ≤ n → (public : List F) → Satisfies k fibonacci_parts (rows m) public →
-      width_of m ≡ 2
-  width-is some public holds =
+  pub width-is : (n : ℕ) (m : RowMajorMatrix F) → rows m ≡ fibonacci_rows k a b (2 ^ n) →
+      (public : List F) → Satisfies k fibonacci_parts (rows m) public → width_of m ≡ 2
+  width-is n m made public holds =
       let long = length-rows m in
-      let below : 0 < length (rows m) = omega (arith, long, some, height-is) in
+      let some = pow_pos n in
+      let high = height-is (2 ^ n) m made in
+      let below : 0 < length (rows m) = omega (arith, long, some, high) in
       sym (rows-width m 0 [] below) ∙ holds.widths 0 [] below
