@@ -10,13 +10,12 @@
 //!
 //! Its files:
 //!
-//! - In `src/`, `claim.rt`: the claim about a sequence of sums, and the type of its proofs.
-//!   `verifier.rt`, `prover.rt`: the callers of `circle_stark`. `any_scheme.rt`: that of the trait
-//!   `Pcs`.
-//! - In `specs/`, `Sums`: the claim's statement, its proofs, and which sizes fit. `Unlucky`: why
-//!   there is no proof.
-//! - In `proofs/`, `Fitting`: that a trace that fits is refused by no test. `OneMatrix`: the claims
-//!   of one matrix at one point.
+//! - In `src/`, `verifier.rt`, `prover.rt`: the callers of `circle_stark`. `any_scheme.rt`: that of
+//!   the trait `Pcs`. `claim.rt`: the claim of the first two, and the type of its proofs.
+//! - In `specs/`, `Sums`: the claim's statement and proofs, and which sizes fit. `Unlucky`: why
+//!   there may be no proof. `Preset`: the scheme.
+//! - In `proofs/`, `Claimed`: what is proved of a statement is so of its claim. `Fitting`: no test
+//!   refuses a table that fits. `OneMatrix`: what is opened of one matrix at one point.
 #![tactic(auto)]
 
 pub mod any_scheme;
