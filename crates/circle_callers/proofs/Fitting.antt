@@ -1,10 +1,11 @@
 -- A table of the sequence passes every test of the prover, so that only ill luck is left.
-use Rattle.std.specs.Prelude.{◌≡◌, ℕ, ◌+◌, ◌^◌, ◌<◌, ◌≤◌, ◌||◌, ◌==◌, Bool, true, false, not, List}
+use Rattle.std.specs.Prelude.{◌≡◌, ℕ, ◌+◌, ◌*◌, ◌/◌, ◌%◌, ◌^◌, ◌<◌, ◌≤◌, ◌||◌, ◌==◌, Bool}
+use Rattle.std.specs.Prelude.{true, false, not, List}
 use Rattle.std.specs.Prelude.{[], ◌∷◌, length, MatchResult, Ok, count_ones, is_some}
 use Rattle.std.specs.Int.{is_power_of_two}
 use Rattle.std.specs.Int.Count.{ones_step}
-use Rattle.std.proofs.Common.{◌∙◌, ap, arith, eq-eqb, refl, subst, suc, sym, zero, ⊎_elim}
-use Rattle.std.proofs.Math.Nat.{pow-suc}
+use Rattle.std.proofs.Common.{◌∙◌, ap, arith, eq-eqb, lit<, refl, subst, suc, sym, zero, ⊎_elim}
+use Rattle.std.proofs.Math.Nat.{pow-le-pow_right, pow-suc}
 use Rattle.std.proofs.lemmas.Bool.{le-ltb, lt-leb}
 use Rattle.std.proofs.lemmas.Nat.{pow_pos}
 use Rattle.std.proofs.lemmas.List.FromFn.{length-map-range_with_len}
@@ -84,7 +85,7 @@ blown : {M : Type 0} (params : FriParameters M) → is_unfit params ≡ false �
 blown params supported = positive params.log_blowup (or-false _ _ (or-false _ _ supported).1).0
 
 -- the greatest degree is 2, so that the quotient has two chunks
-chunks : {F : Type 0} → IsLogOfChunks (degree_of_parts (fibonacci_parts {F})) 1
+chunks : {F : Type 0} → IsLogOfChunks (degree_of_parts (fibonacci_parts {F = F})) 1
 chunks = record {
   positive = omega arith;
   enough = omega arith;
@@ -127,6 +128,14 @@ module _ {F M : Type 0} (params : FriParameters M) (s : Statement F) (n width he
       subst
       (λ r. MatchResult r (λ passed. Otherwise 1 e) (λ first. (e ≡ first) × (new ≡ old))) passes
       (refused 1 (subst (λ (p : Parts F). IsLogOfChunks (degree_of_parts p) 1) (sym parts) chunks))
+
+-- so many rows are counted by a shift
+pub shifted : {M : Type 0} (params : FriParameters M) (n : ℕ) → Fits params n →
+    1 * 2 ^ n % 2 ^ 64 ≡ 2 ^ n
+shifted params n fits =
+    let extended = fits.extended in
+    let small : 2 ^ n ≤ 2 ^ 63 = pow-le-pow_right (lit< tt) (omega (arith, extended)) in
+    omega (arith, small)
 
 -- the logarithm of so many rows
 pub log-is : {M : Type 0} (params : FriParameters M) (height n : ℕ) → height ≡ 2 ^ n →

@@ -19,7 +19,6 @@ use Rattle.circle_commit.specs.declared.pcs.OpeningRequest.{OpeningRequest}
 use Rattle.circle_round_trip.proofs.Batches.{AskFor, are-answered, have-answers}
 use Rattle.circle_round_trip.specs.RoundTrip.{AreCommitted, HasPoints}
 use Rattle.circle_round_trip.specs.declared.any_scheme.BatchAtPoints.{BatchAtPoints}
-use Rattle.circle_round_trip.specs.declared.any_scheme.Committed.{Committed}
 
 -- a list of one point, in a list of one
 pub one-point : {E : Type 0} (outer : Vec (Vec E Global) Global) (inner : Vec E Global)
@@ -110,9 +109,6 @@ module _ {E Com Data Dom M : Type 0} (commits : List (Dom × M) → Com → Data
   at-point : BatchAtPoints E Dom M
   at-point = record { evaluations = batch; points = known.points }
 
-  seen : Committed E Com Data Dom
-  seen = record { known = known; prover_data = stored }
-
   has-points : All HasPoints (at-point ∷ [])
   has-points =
       let many = ap length points in
@@ -127,7 +123,9 @@ module _ {E Com Data Dom M : Type 0} (commits : List (Dom × M) → Com → Data
       }
       (All-nil HasPoints)
 
-  is-committed : AreCommitted commits (at-point ∷ []) (seen ∷ [])
+  is-committed :
+      AreCommitted commits (at-point ∷ [])
+      (record { known = known; prover_data = stored } ∷ [])
   is-committed = (
     record {
       committed = committed;
@@ -137,7 +135,7 @@ module _ {E Com Data Dom M : Type 0} (commits : List (Dom × M) → Com → Data
     tt,
   )
 
-  asks : AskFor (seen ∷ []) (request ∷ [])
+  asks : AskFor (record { known = known; prover_data = stored } ∷ []) (request ∷ [])
   asks = record {
     kept = ap (λ d. d ∷ []) kept;
     points = ap (λ ps. ps ∷ []) (asked ∙ sym points);
@@ -149,10 +147,12 @@ module _ {E Com Data Dom M : Type 0} (commits : List (Dom × M) → Com → Data
       map batch_told claims ≡ pairwise batch_claimed (known ∷ []) values →
       AreAnsweredBy size commits (request ∷ []) values claims
   answered size values claims have told =
-      are-answered commits size (at-point ∷ []) (seen ∷ []) (request ∷ []) values claims has-points
-      is-committed asks
-      (have-answers commits (at-point ∷ []) (seen ∷ []) (request ∷ []) values has-points
-      is-committed asks have) told
+      are-answered commits size (at-point ∷ [])
+      (record { known = known; prover_data = stored } ∷ [])
+      (request ∷ []) values claims has-points is-committed asks
+      (have-answers commits (at-point ∷ [])
+      (record { known = known; prover_data = stored } ∷ [])
+      (request ∷ []) values has-points is-committed asks have) told
 
 -- what is opened are the values of the matrix
 pub true-row : {E Com Data Dom M : Type 0} (commits : List (Dom × M) → Com → Data → Type 0)

@@ -1,12 +1,13 @@
 -- The claim about a sequence of sums: its statement, its proofs, and which sizes fit.
-use Rattle.std.specs.Prelude.{◌≡◌, ℕ, ◌+◌, ◌<◌, ◌≤◌, false, List, [], ◌∷◌, replicate, Vec}
+use Rattle.std.specs.Prelude.{◌≡◌, ℕ, ◌+◌, ◌^◌, ◌<◌, ◌≤◌, false, List, [], ◌∷◌, replicate, Vec}
 use Rattle.std.specs.declared.alloc.Global.{Global}
-use Rattle.circle_airs.specs.Fibonacci.{fibonacci_parts}
+use Rattle.circle_airs.specs.Fibonacci.{fibonacci_parts, term}
 use Rattle.circle_callers.specs.Preset.{Scheme}
 use Rattle.circle_callers.specs.contracts.claim.ChallengerHasSchemes.TheImpl as chosen
 use Rattle.circle_callers.specs.declared.claim.Claim.{Claim}
 use Rattle.circle_challenger.specs.declared.sha256.Sha256Challenger.{Sha256Challenger}
 use Rattle.circle_commit.specs.declared.params.FriParameters.{FriParameters}
+use Rattle.circle_field.specs.Mersenne31.{operations}
 use Rattle.circle_field.specs.declared.cubic.Cubic.{Cubic}
 use Rattle.circle_field.specs.declared.mersenne31.Mersenne31.{Mersenne31}
 use Rattle.circle_merkle.specs.declared.mmcs.ShaMmcs.{ShaMmcs}
@@ -19,6 +20,15 @@ use Rattle.circle_stark.specs.declared.proof.StarkProof.{StarkProof}
 -- what contracts see of the scheme and its challenger
 abbrev pub schemes : Schemes Scheme Sha256Challenger (List ℕ) Mersenne31 Cubic
 schemes = chosen.ghosts.schemes
+
+-- the claim of the term that the sequence has
+abbrev pub true_claim : Mersenne31 → Mersenne31 → ℕ → Claim
+true_claim first second n = record {
+  log_n = n;
+  first = first;
+  second = second;
+  last = term operations first second (2 ^ n);
+}
 
 -- a table of 2^log_n rows, of which each begins with the second entry of the one before and goes on
 -- with the sum of both, begins with the first two terms and ends with the last

@@ -1,9 +1,7 @@
 //! A prover, whose contract says for which reasons alone it fails.
-ghost use Rattle.std.specs.Prelude.{◌≡◌, ◌^◌, IfErr, IfOk};
-ghost use Rattle.circle_airs.specs.Fibonacci.{term};
-ghost use Rattle.circle_callers.specs.Sums.{Fits, IsProofOf};
+ghost use Rattle.std.specs.Prelude.{◌≡◌, IfErr, IfOk};
+ghost use Rattle.circle_callers.specs.Sums.{Fits, IsProofOf, true_claim};
 ghost use Rattle.circle_callers.specs.Unlucky.{IsUnlucky};
-ghost use Rattle.circle_field.specs.Mersenne31.{operations};
 
 use crate::claim::{Claim, Proof};
 use circle_airs::{fibonacci_air, fibonacci_trace};
@@ -25,7 +23,7 @@ pub fn prove_sum(
     log_n: usize,
 ) -> Result<(Claim, Proof), StarkProverError>
     requires fits { Fits pcs.now.fri_params log_n }
-    ensures claim { IfOk result (λ r. r.0.last ≡ term operations first second (2 ^ log_n)) }
+    ensures claim { IfOk result (λ r. r.0 ≡ true_claim first second log_n) }
     ensures proof { IfOk result (λ r. IsProofOf pcs.now r.0 r.1) }
     ensures reason { IfErr result IsUnlucky }
 {

@@ -1,9 +1,10 @@
 use Rattle.std.proofs.Common.{◌∙◌, ◌^◌, ℕ, List, [], ◌∷◌, ap, length, refl, subst, sym}
 use Rattle.std.proofs.Common.{slice_index_or}
 use Rattle.circle_air.specs.Air.{air_of}
+use Rattle.circle_airs.specs.Fibonacci.{fibonacci_rows, term}
 use Rattle.circle_callers.proofs.Claimed.{of_parts, proved, stated}
-use Rattle.circle_callers.proofs.Fitting.{height-is, log-is, otherwise, still-satisfied, unlucky}
-use Rattle.circle_callers.proofs.Fitting.{width-is}
+use Rattle.circle_callers.proofs.Fitting.{height-is, log-is, otherwise, shifted}
+use Rattle.circle_callers.proofs.Fitting.{still-satisfied, unlucky, width-is}
 use Rattle.circle_callers.specs.Sums.{schemes}
 use Rattle.circle_callers.specs.Unlucky.{IsUnlucky}
 use Rattle.circle_callers.specs.declared.claim.Claim.{Claim}
@@ -28,9 +29,13 @@ returns-in_err-proof-clause-reason c =
     let public = c.deref.result.now in
     let parts = c.in-Ok.ensures.parts in
     let given = c.deref.ensures.value in
-    let high = height-is operations first second (2 ^ n) m c.in_ok-made.ensures.rows in
+    let made =
+    c.in_ok-made.ensures.rows
+    ∙ ap (λ (h : ℕ). fibonacci_rows operations first second h)
+    (shifted pcs.fri_params n c.requires.fits) in
+    let high = height-is operations first second (2 ^ n) m made in
     let wide =
-    width-is operations first second n m c.in_ok-made.ensures.rows
+    width-is operations first second n m made
     c.in_ok-made.made.public_values.items c.in_ok-made.ensures.satisfies in
     let s = of_parts (air_of c.in-Ok.air) (log_of (height_of m)) public in
     handed IsUnlucky c.from_residual-in_err-proof.result e c.from_residual-in_err-proof.ensures.1
@@ -45,9 +50,16 @@ returns-in_err-proof-clause-reason c =
 
 pub returns-clause-claim : goal.returns-clause-claim
 returns-clause-claim c =
-    c.index.ensures
+    let first = c.args.first in
+    let second = c.args.second in
+    let claim_of : Mersenne31 → Claim = λ last.
+    record { log_n = c.args.log_n; first = first; second = second; last = last } in
+    ap claim_of
+    (c.index.ensures
     ∙ ap (λ (v : List Mersenne31). slice_index_or v 2 c.index.result.now)
     c.in_ok-made.ensures.public
+    ∙ ap (λ (h : ℕ). term operations first second h)
+    (shifted c.args.pcs.now.fri_params c.args.log_n c.requires.fits))
 
 pub returns-clause-proof : goal.returns-clause-proof
 returns-clause-proof c =
@@ -58,7 +70,11 @@ returns-clause-proof c =
     let last = c.index.result.now in
     let pcs = c.args.pcs.now in
     let claim : Claim = record { log_n = n; first = first; second = second; last = last } in
-    let high = height-is operations first second (2 ^ n) m c.in_ok-made.ensures.rows in
+    let made =
+    c.in_ok-made.ensures.rows
+    ∙ ap (λ (h : ℕ). fibonacci_rows operations first second h)
+    (shifted pcs.fri_params n c.requires.fits) in
+    let high = height-is operations first second (2 ^ n) m made in
     let is_last =
     c.index.ensures
     ∙ ap (λ (v : List Mersenne31). slice_index_or v 2 last) c.in_ok-made.ensures.public in
