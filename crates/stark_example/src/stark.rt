@@ -44,8 +44,8 @@ pub fn verify(
     statement: StarkStatement<'_, Val>,
     proof: &Proof,
 ) -> Result<()>
-    ensures { let p = ⟦<Scheme as StarkRelation<Challenge, Challenger>>⟧ in OnOk result ((c : _) →
-        state_of c ≡ replicate 32 0 → p.holds pcs.now statement.entry proof.now c) }
+    ensures { let p = ⟦<Scheme as StarkRelation<Challenge, Challenger>>⟧ in OnOk result
+        ((c : _) × (state_of c ≡ replicate 32 0) × p.holds pcs.now statement.entry proof.now c) }
 {
     let mut challenger = Challenger::new();
     Ok(circle_stark::verify(alloc, pcs, statement, proof, &mut challenger)?)
