@@ -3,7 +3,7 @@ use Rattle.std.specs.Prelude.{◌≡◌, ℕ, ◌+◌, ◌*◌, ◌/◌, ◌%◌
 use Rattle.std.specs.Prelude.{true, false, not, List}
 use Rattle.std.specs.Prelude.{[], ◌∷◌, length, MatchResult, Ok, count_ones, is_some}
 use Rattle.std.specs.Int.{is_power_of_two}
-use Rattle.std.specs.Int.Count.{ones_step}
+use Rattle.std.specs.Int.Count.{ones-ones, ones_step}
 use Rattle.std.proofs.Common.{◌∙◌, ap, arith, eq-eqb, lit<, refl, subst, suc, sym, zero, ⊎_elim}
 use Rattle.std.proofs.Math.Nat.{pow-le-pow_right, pow-suc}
 use Rattle.std.proofs.lemmas.Bool.{le-ltb, lt-leb}
@@ -68,7 +68,7 @@ kept-true false is = cc
 
 -- a power of two has one bit
 one-bit : (n : ℕ) → count_ones (2 ^ n) ≡ 1
-one-bit zero = refl
+one-bit zero = ones-ones 1
 one-bit (suc n) =
     let step = ones_step (2 ^ suc n) in
     let twice = pow-suc 2 n in
@@ -85,8 +85,8 @@ blown : {M : Type 0} (params : FriParameters M) → is_unfit params ≡ false �
 blown params supported = positive params.log_blowup (or-false _ _ (or-false _ _ supported).1).0
 
 -- the greatest degree is 2, so that the quotient has two chunks
-chunks : {F : Type 0} → IsLogOfChunks (degree_of_parts (fibonacci_parts {F = F})) 1
-chunks = record {
+chunks : (F : Type 0) → IsLogOfChunks (degree_of_parts (fibonacci_parts {F = F})) 1
+chunks F = record {
   positive = omega arith;
   enough = omega arith;
   least = λ m positive enough. positive;
@@ -127,14 +127,16 @@ module _ {F M : Type 0} (params : FriParameters M) (s : Statement F) (n width he
   otherwise Otherwise old new e refused =
       subst
       (λ r. MatchResult r (λ passed. Otherwise 1 e) (λ first. (e ≡ first) × (new ≡ old))) passes
-      (refused 1 (subst (λ (p : Parts F). IsLogOfChunks (degree_of_parts p) 1) (sym parts) chunks))
+      (refused 1
+      (subst (λ (p : Parts F). IsLogOfChunks (degree_of_parts p) 1) (sym parts) (chunks F)))
 
 -- so many rows are counted by a shift
 pub shifted : {M : Type 0} (params : FriParameters M) (n : ℕ) → Fits params n →
     1 * 2 ^ n % 2 ^ 64 ≡ 2 ^ n
 shifted params n fits =
     let extended = fits.extended in
-    let small : 2 ^ n ≤ 2 ^ 63 = pow-le-pow_right (lit< tt) (omega (arith, extended)) in
+    let below : n ≤ 63 = omega (arith, extended) in
+    let small : 2 ^ n ≤ 2 ^ 63 = pow-le-pow_right (lit< tt) below in
     omega (arith, small)
 
 -- the logarithm of so many rows

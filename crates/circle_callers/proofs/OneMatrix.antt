@@ -19,6 +19,8 @@ use Rattle.circle_commit.specs.declared.pcs.OpeningRequest.{OpeningRequest}
 use Rattle.circle_round_trip.proofs.Batches.{AskFor, are-answered, have-answers}
 use Rattle.circle_round_trip.specs.RoundTrip.{AreCommitted, HasPoints}
 use Rattle.circle_round_trip.specs.declared.any_scheme.BatchAtPoints.{BatchAtPoints}
+use Rattle.circle_round_trip.specs.declared.any_scheme.RoundTripError.{RoundTripError}
+use Rattle.circle_round_trip.specs.declared.any_scheme.RoundTripError.TheVariants.{Verify}
 
 -- a list of one point, in a list of one
 pub one-point : {E : Type 0} (outer : Vec (Vec E Global) Global) (inner : Vec E Global)
@@ -65,7 +67,7 @@ some v x is = let long = ap length is in omega (arith, v.ok.0, long)
 map-one : {A B : Type 0} (f : A → B) (xs : List A) (y : B) → map f xs ≡ y ∷ [] →
     (x : A) × (xs ≡ x ∷ []) × (f x ≡ y)
 map-one f [] y is = absurd (cc)
-map-one f (x ∷ []) y is = (x, (refl, cc))
+map-one f (x ∷ []) y is = let same : f x ≡ y = cc in (x, refl, same)
 map-one f (x ∷ z ∷ xs) y is = absurd (cc)
 
 -- opened values of one matrix at one point
@@ -81,21 +83,24 @@ pub record IsOneRow {E : Type 0} (opened : Vec (Vec (Vec (Vec E Global) Global) 
 
 pub is-one-row : {E Data : Type 0} (point : E)
     (opened : Vec (Vec (Vec (Vec E Global) Global) Global) Global)
-    (request : OpeningRequest Data E) → HaveValues (request ∷ []) (openings opened.items) →
+    (requests : List (OpeningRequest Data E)) (request : OpeningRequest Data E) →
+    requests ≡ request ∷ [] → HaveValues requests (openings opened.items) →
     requested_points request ≡ (point ∷ []) ∷ [] → IsOneRow opened
-is-one-row point opened request have asked =
-    let one = one-row point request (openings opened.items) have asked in
+is-one-row point opened requests request is have asked =
+    let one =
+    one-row point request (openings opened.items)
+    (subst (λ rs. HaveValues rs (openings opened.items)) is have) asked in
     let batch = map-one (λ b. opened_rows b.items) opened.items ((one.0 ∷ []) ∷ []) one.1 in
-    let matrix = map-one (λ m. map (λ v. v.items) m.items) batch.0.items (one.0 ∷ []) batch.1.1 in
-    let row = map-one (λ v. v.items) matrix.0.items one.0 matrix.1.1 in
+    let matrix = map-one (λ m. map (λ v. v.items) m.items) batch.0.items (one.0 ∷ []) batch.2 in
+    let row = map-one (λ v. v.items) matrix.0.items one.0 matrix.2 in
     record {
       batch = batch.0;
       matrix = matrix.0;
       row = row.0;
-      of_all = batch.1.0;
-      of_batch = matrix.1.0;
-      of_matrix = row.1.0;
-      values = one.1 ∙ ap (λ r. ((r ∷ []) ∷ []) ∷ []) (sym row.1.1);
+      of_all = batch.1;
+      of_batch = matrix.1;
+      of_matrix = row.1;
+      values = one.1 ∙ ap (λ r. ((r ∷ []) ∷ []) ∷ []) (sym row.2);
     }
 
 module _ {E Com Data Dom M : Type 0} (commits : List (Dom × M) → Com → Data → Type 0)
@@ -106,7 +111,7 @@ module _ {E Com Data Dom M : Type 0} (commits : List (Dom × M) → Com → Data
     (points : lists known.points ≡ (point ∷ []) ∷ [])
     (kept : request.prover_data.now ≡ stored)
     (asked : requested_points request ≡ (point ∷ []) ∷ []) where
-  at-point : BatchAtPoints E Dom M
+  abbrev at-point : BatchAtPoints E Dom M
   at-point = record { evaluations = batch; points = known.points }
 
   has-points : All HasPoints (at-point ∷ [])
@@ -143,30 +148,38 @@ module _ {E Com Data Dom M : Type 0} (commits : List (Dom × M) → Com → Data
 
   -- the claims are of what is opened
   pub answered : (size : Dom → ℕ) (values : Openings E)
-      (claims : List (CommitmentOpening E Com Dom)) → HaveValues (request ∷ []) values →
-      map batch_told claims ≡ pairwise batch_claimed (known ∷ []) values →
-      AreAnsweredBy size commits (request ∷ []) values claims
-  answered size values claims have told =
-      are-answered commits size (at-point ∷ [])
+      (claims : List (CommitmentOpening E Com Dom)) (requests : List (OpeningRequest Data E))
+      (knowns : List (CommittedBatch E Com Dom)) → requests ≡ request ∷ [] →
+      knowns ≡ known ∷ [] → HaveValues requests values →
+      map batch_told claims ≡ pairwise batch_claimed knowns values →
+      AreAnsweredBy size commits requests values claims
+  answered size values claims requests knowns these those have told =
+      let mine = subst (λ rs. HaveValues rs values) these have in
+      subst (λ rs. AreAnsweredBy size commits rs values claims) (sym these)
+      (are-answered commits size (at-point ∷ [])
       (record { known = known; prover_data = stored } ∷ [])
       (request ∷ []) values claims has-points is-committed asks
       (have-answers commits (at-point ∷ [])
       (record { known = known; prover_data = stored } ∷ [])
-      (request ∷ []) values has-points is-committed asks have) told
+      (request ∷ []) values has-points is-committed asks mine)
+      (told ∙ ap (λ ks. pairwise batch_claimed ks values) those))
 
 -- what is opened are the values of the matrix
 pub true-row : {E Com Data Dom M : Type 0} (commits : List (Dom × M) → Com → Data → Type 0)
     (given : Dom × M) (point : E) (batch : Vec (Dom × M) Global) (commitment : Com)
-    (stored : Data) (request : OpeningRequest Data E) → batch.items ≡ given ∷ [] →
+    (stored : Data) (requests : List (OpeningRequest Data E)) (request : OpeningRequest Data E) →
+    requests ≡ request ∷ [] → batch.items ≡ given ∷ [] →
     commits batch.items commitment stored → request.prover_data.now ≡ stored →
     requested_points request ≡ (point ∷ []) ∷ [] →
     (ValuesOf : List (Dom × M) → List (List E) → List (List (List E)) → Type 0)
     (values : Openings E) (row : List E) → values ≡ ((row ∷ []) ∷ []) ∷ [] →
-    AreTrueValues commits ValuesOf (request ∷ []) values →
+    AreTrueValues commits ValuesOf requests values →
     ValuesOf (given ∷ []) ((point ∷ []) ∷ []) ((row ∷ []) ∷ [])
-true-row commits given point batch commitment stored request is committed kept asked ValuesOf
-    values row same true =
-    let all = subst (AreTrueValues commits ValuesOf (request ∷ [])) same true in
+true-row commits given point batch commitment stored requests request these is committed kept asked
+    ValuesOf values row same true =
+    let all =
+    subst (AreTrueValues commits ValuesOf (request ∷ [])) same
+    (subst (λ rs. AreTrueValues commits ValuesOf rs values) these true) in
     let one =
     all.0 batch.items commitment (subst (commits batch.items commitment) (sym kept) committed) in
     subst (λ ps. ValuesOf (given ∷ []) ps ((row ∷ []) ∷ [])) asked
@@ -174,8 +187,17 @@ true-row commits given point batch commitment stored request is committed kept a
 
 -- what is kept of a batch can be opened
 pub kept-one : {E B Com Data : Type 0} (commits : B → Com → Data → Type 0)
-    (request : OpeningRequest Data E) (batch : B) (commitment : Com) →
-    commits batch commitment request.prover_data.now → AreKept commits (request ∷ [])
-kept-one {B = B} {Com = Com} commits request batch commitment committed =
-    let Kept = λ r. (b : B) × (c : Com) × commits b c r.prover_data.now in
-    All-cons Kept request [] (batch, commitment, committed) (All-nil Kept)
+    (requests : List (OpeningRequest Data E)) (request : OpeningRequest Data E) (batch : B)
+    (commitment : Com) → requests ≡ request ∷ [] →
+    commits batch commitment request.prover_data.now → AreKept commits requests
+kept-one {E = E} {B = B} {Com = Com} {Data = Data} commits requests request batch commitment these
+    committed =
+    let Kept : OpeningRequest Data E → Type 0 = λ r. (b : B) × (c : Com)
+    × commits b c r.prover_data.now in
+    subst (AreKept commits) (sym these)
+    (All-cons Kept request [] (batch, commitment, committed) (All-nil Kept))
+
+-- the refusal that is handed on is the verifier's
+pub refusal-is : {PE VE : Type 0} (e why : VE) →
+    ◌≡◌ {A = RoundTripError PE VE} (Verify e) (Verify why) → e ≡ why
+refusal-is e why same = cc
