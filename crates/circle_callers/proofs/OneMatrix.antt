@@ -100,7 +100,8 @@ is-one-row point opened requests request is have asked =
       of_all = batch.1;
       of_batch = matrix.1;
       of_matrix = row.1;
-      values = one.1 ∙ ap (λ r. ((r ∷ []) ∷ []) ∷ []) (sym row.2);
+      values =
+          subst (λ r. openings opened.items ≡ ((r ∷ []) ∷ []) ∷ []) (sym row.2) one.1;
     }
 
 module _ {E Com Data Dom M : Type 0} (commits : List (Dom × M) → Com → Data → Type 0)
