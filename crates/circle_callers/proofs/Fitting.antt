@@ -1,7 +1,7 @@
 -- A table of the sequence passes every test of the prover, so that only ill luck is left.
 use Rattle.std.specs.Prelude.{◌≡◌, ℕ, ◌+◌, ◌*◌, ◌/◌, ◌%◌, ◌^◌, ◌<◌, ◌≤◌, ◌||◌, ◌==◌, Bool}
 use Rattle.std.specs.Prelude.{true, false, not, List}
-use Rattle.std.specs.Prelude.{[], ◌∷◌, length, MatchResult, Ok, count_ones, is_some}
+use Rattle.std.specs.Prelude.{[], length, MatchResult, Ok, count_ones, is_some}
 use Rattle.std.specs.Int.{is_power_of_two}
 use Rattle.std.specs.Int.Count.{ones-ones, ones_step}
 use Rattle.std.proofs.Common.{◌∙◌, ap, arith, eq-eqb, lit<, refl, subst, suc, sym, zero, ⊎_elim}

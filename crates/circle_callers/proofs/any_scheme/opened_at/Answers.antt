@@ -1,4 +1,4 @@
-use Rattle.std.proofs.Common.{◌≡◌, ◌∙◌, [], ◌∷◌, IsTrue, ap, refl, subst, sym}
+use Rattle.std.proofs.Common.{◌∙◌, [], ◌∷◌, IsTrue, ap, refl, subst, sym}
 use Rattle.circle_callers.proofs.OneMatrix.{answered, first-is, is-one-row, kept-one, one-point}
 use Rattle.circle_callers.proofs.OneMatrix.{refusal-is, some, true-row}
 use Rattle.circle_commit.specs.Pcs.{openings}

@@ -1,4 +1,4 @@
-use Rattle.std.proofs.Common.{◌∙◌, ◌^◌, ℕ, List, [], ◌∷◌, ap, length, refl, subst, sym}
+use Rattle.std.proofs.Common.{◌∙◌, ◌^◌, ℕ, List, [], ◌∷◌, ap, length, sym}
 use Rattle.std.proofs.Common.{slice_index_or}
 use Rattle.circle_air.specs.Air.{air_of}
 use Rattle.circle_airs.specs.Fibonacci.{fibonacci_rows, term}
@@ -14,7 +14,6 @@ use Rattle.circle_commit.specs.RowMajorMatrix.{height_of, rows, width_of}
 use Rattle.circle_field.specs.Mersenne31.{operations}
 use Rattle.circle_field.specs.declared.mersenne31.Mersenne31.{Mersenne31}
 use Rattle.circle_round_trip.proofs.Batches.{handed}
-use Rattle.circle_stark.specs.Statement.{Statement}
 use Rattle.circle_stark.specs.Unproved.{IsTraceUnproved}
 use Rattle.circle_callers.proofs.prover.prove_sum.Goals as goal
 
