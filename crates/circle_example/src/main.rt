@@ -3,13 +3,17 @@
 //! are exchanged.
 #![tactic(auto)]
 
+ghost use Rattle.std.specs.Prelude.{IfOk};
+ghost use Rattle.circle_commit.specs.Honest.{AreTrueValues};
+ghost use Rattle.circle_commit.specs.Pcs.{openings};
+
 use anyhow::{Result, bail};
 use circle_presets::{
     Challenge, Challenger, Commitment, Domain, Known, Proof, ProverData, Request, Scheme, Val,
     VerifierError, scheme,
 };
 use p3_circle::{
-    CanObserve, Field, FieldChallenger, FriParameters, OpenedValues, PolynomialSpace,
+    CanObserve, Field, FieldChallenger, FriParameters, OpenedValues, Pcs, PolynomialSpace,
     RowMajorMatrix, claims_of, heights_match_domains,
 };
 use std::alloc::{AllocError, Global};
@@ -101,15 +105,17 @@ fn requests(
     ]?)
 }
 
-/// Opens a batch of one height, in a run of its own.
+/// Opens a batch of one height, in a run of its own: the values are those of the polynomials that
+/// were committed to.
 fn open(
     alloc: Global,
     pcs: &Scheme,
-    prover_data: &ProverData,
-    points: Vec<Vec<Challenge>>,
+    requests: Vec<Request<'_>>,
     challenger: &mut Challenger,
-) -> Result<Opening> {
-    let requests = requests(alloc, prover_data, points)?;
+) -> Result<Opening>
+    ensures { let p = ⟦<Scheme as Pcs<Challenge, Challenger>>⟧ in IfOk result (λ o. AreTrueValues
+        (p.commits pcs.now) (p.values_of pcs.now) requests.entry.items (openings o.values.items)) }
+{
     if !pcs.have_heights_of_powers(&requests) {
         bail!("a height is no power of two");
     }
@@ -127,8 +133,10 @@ fn prove(alloc: Global, pcs: &Scheme) -> Result<Published> {
     let commitments = [tall, low];
     let (mut challenger, point) = after_commitments(&commitments);
     let [at_tall, at_low] = points(alloc, point)?;
-    let tall = open(alloc, pcs, &tall_data, at_tall, &mut challenger)?;
-    let low = open(alloc, pcs, &low_data, at_low, &mut challenger)?;
+    let of_tall = requests(alloc, &tall_data, at_tall)?;
+    let of_low = requests(alloc, &low_data, at_low)?;
+    let tall = open(alloc, pcs, of_tall, &mut challenger)?;
+    let low = open(alloc, pcs, of_low, &mut challenger)?;
     Ok(Published {
         commitments,
         tall,

@@ -1,13 +1,14 @@
 //! The prover and the verifier, each by a challenger of its own that has absorbed nothing.
-ghost use Rattle.std.specs.Prelude.{OnOk};
+ghost use Rattle.std.specs.Prelude.{◌≡◌, OnOk, replicate};
 ghost use Rattle.circle_air.specs.Satisfies.{Satisfies};
+ghost use Rattle.circle_challenger.specs.Sha256Challenger.{state_of};
 ghost use Rattle.circle_commit.specs.RowMajorMatrix.{rows};
 ghost use Rattle.circle_field.specs.Mersenne31.{operations};
 ghost use Rattle.circle_stark.specs.Trace.{stated};
 
 use anyhow::Result;
 use circle_presets::{Challenge, ChallengeMmcs, Challenger, Scheme, Val, ValMmcs};
-use circle_stark::{StarkProof, StarkStatement, StarkTrace};
+use circle_stark::{StarkProof, StarkRelation, StarkStatement, StarkTrace};
 use p3_circle::FriParameters;
 use std::alloc::Global;
 
@@ -35,13 +36,17 @@ pub fn prove(alloc: Global, pcs: &Scheme, trace: StarkTrace<'_, Val>) -> Result<
     Ok(circle_stark::prove(alloc, pcs, trace, &mut challenger)?)
 }
 
-/// Ok where the verifier accepts a proof of the statement.
+/// Ok only where the relation that the verifier decides holds of the statement and the proof, from
+/// a challenger that has absorbed nothing.
 pub fn verify(
     alloc: Global,
     pcs: &Scheme,
     statement: StarkStatement<'_, Val>,
     proof: &Proof,
-) -> Result<()> {
+) -> Result<()>
+    ensures { let p = ⟦<Scheme as StarkRelation<Challenge, Challenger>>⟧ in OnOk result
+        ((c : _) × (state_of c ≡ replicate 32 0) × p.holds pcs.now statement.entry proof.now c) }
+{
     let mut challenger = Challenger::new();
     Ok(circle_stark::verify(alloc, pcs, statement, proof, &mut challenger)?)
 }

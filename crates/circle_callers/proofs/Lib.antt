@@ -1,0 +1,3 @@
+pub mod Claimed
+pub mod Fitting
+pub mod OneMatrix

@@ -1,0 +1,3 @@
+pub mod Preset
+pub mod Sums
+pub mod Unlucky
