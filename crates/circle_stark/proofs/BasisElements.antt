@@ -1,6 +1,6 @@
 -- Elements of a basis, one after the other.
-use Rattle.std.specs.Prelude.{◌≡◌, ℕ, ◌+◌, ◌<◌, List, [], ◌∷◌, ◌++◌, length, replicate, slice_index_or}
-use Rattle.std.specs.Prelude.{slice_set}
+use Rattle.std.specs.Prelude.{◌≡◌, ℕ, ◌+◌, ◌<◌, List, [], ◌∷◌, ◌++◌, length, replicate}
+use Rattle.std.specs.Prelude.{slice_index_or, slice_set}
 use Rattle.std.proofs.Common.{sym, ◌∙◌, ap, arith, length-append, ⊎_elim}
 use Rattle.std.proofs.lemmas.Bool.{cases_lt}
 use Rattle.std.proofs.lemmas.List.{get_or_append_left, get_or_push}
@@ -38,5 +38,6 @@ module _ {F E : Type 0} (k : FieldOps F) (coefficients : E → List F) (degree :
   }
 
   -- all
-  pub whole : (elements : List E) → AreFirst degree elements → AreBasis k coefficients degree elements
+  pub whole : (elements : List E) → AreFirst degree elements →
+      AreBasis k coefficients degree elements
   whole elements first = record { count = first.count; each = first.each }

@@ -202,7 +202,8 @@ module _ {C S D F E I M IC ID IP IE WC WD WP WE : Type 0} {g : Ghosts F} (k : Fi
       point = from_line k.extension zeta
 
       -- both sides of the identity have a value
-      composed : (value : E) × IsCompositionAt k.field k.gen k.extension k.embed s v alpha zeta value
+      composed : (value : E)
+          × IsCompositionAt k.field k.gen k.extension k.embed s v alpha zeta value
       composed =
           composition-there base laws e gens s (omega (arith, provable.domains.positive))
           (omega (arith, provable.domains.in_group)) valid provable.domains.periods v alpha zeta

@@ -53,12 +53,9 @@ log2_strict-requires g c = (_, c.height-height.ensures ∙ c.in-Ok.ensures.heigh
 pub returns-in-Err-clause-first : goal.returns-in-Err-clause-first
 returns-in-Err-clause-first g c =
     of-refused g.Val.ComplexExtendable.CIRCLE_TWO_ADICITY c.args.pcs.now.fri_params c.args.trace _ _
-    (λ e none first. (
-      ap Err (c.from.ensures
-          ∙ ap unproved (one-refusal c.prove.result c.in-Err.error e c.in-Err.is first.0) ∙ kept e none),
-      first.1,
-      refl,
-    ))
+    (λ e none first.
+    let same = one-refusal c.prove.result c.in-Err.error e c.in-Err.is first.0 in
+    (ap Err (c.from.ensures ∙ ap unproved same ∙ kept e none), first.1, refl))
     c.prove.ensures.first
 
 pub returns-in-Err-clause-complete : goal.returns-in-Err-clause-complete
@@ -139,6 +136,8 @@ returns-in_err-verify g c =
       accepted = refused-ok _ r (unverified e) is;
       values = refused-ok _ r (unverified e) is;
       states = refused-ok _ r (unverified e) is;
-      complete = refuses-with _ r (unverified e) is (subst IsNotVerify (sym as_memory) memory-not-verify);
+      complete =
+          refuses-with _ r (unverified e) is
+          (subst IsNotVerify (sym as_memory) memory-not-verify);
       reason = refuses-with _ r (unverified e) is (subst (IsOfProver _) (sym as_memory) tt);
     }
