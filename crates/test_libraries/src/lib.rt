@@ -1,6 +1,6 @@
-//! Tests of `circle_field`, of the matrices of `circle_commit`, of `circle_air` and of `circle_merkle`
-//! by their public calls. They stand here so that each of these crates is proved once. What another
-//! implementation found on the traces of AIRs is in `violations.json` of `test_cases`.
+//! Tests of `circle_field`, of the matrices of `circle_commit`, of `circle_air` and of
+//! `circle_merkle` by their public calls. They stand here so that each of these crates is proved
+//! once. What another implementation found on traces is in `violations.json` of `test_cases`.
 #![tactic(auto)]
 
 #[cfg(test)]

@@ -4,7 +4,7 @@ use Rattle.circle_field.specs.Cubic.{operations, embed}
 use Rattle.circle_point.specs.Point.{coordinates}
 use Rattle.circle_domain.specs.Clear.{IsClearOf}
 use Rattle.circle_domain.specs.Domain.{points_of}
-use Rattle.bench_passes.proofs.evaluations.fastest.Goals as goal
+use Rattle.circle_bench.proofs.evaluations.fastest.Goals as goal
 
 pub evaluate_at_point-requires-clause-clear : goal.evaluate_at_point-requires-clause-clear
 evaluate_at_point-requires-clause-clear c =

@@ -1,6 +1,6 @@
 use Rattle.std.proofs.Common.{◌∙◌, ap, sym, length}
 use Rattle.circle_commit.specs.RowMajorMatrix.{length-rows}
-use Rattle.bench_passes.proofs.timing.fastest_transform.Goals as goal
+use Rattle.circle_bench.proofs.timing.fastest_transform.Goals as goal
 
 -- a copy has the rows of the matrix
 pub run-requires-clause-height : goal.run-requires-clause-height

@@ -1,7 +1,7 @@
 use Rattle.std.proofs.Common.{◌∙◌, ap, arith}
 use Rattle.circle_domain.specs.Domain.{log_size, shift_of}
-use Rattle.bench_passes.proofs.Standard.{standard-genuine}
-use Rattle.bench_passes.proofs.transforms.Transform.run.Goals as goal
+use Rattle.circle_bench.proofs.Standard.{standard-genuine}
+use Rattle.circle_bench.proofs.transforms.Transform.run.Goals as goal
 
 pub interpolate-requires-clause-genuine : goal.interpolate-requires-clause-genuine
 interpolate-requires-clause-genuine c =
