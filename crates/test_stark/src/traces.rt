@@ -1,9 +1,9 @@
 //! What `prove` and `prove_and_verify` return of traces, and the states of both challengers.
-use crate::calls::{Text, honest, proof_of, told, verdict_on};
+use crate::calls::{Text, honest, outcome_of_both, proof_of, verdict_on};
 use crate::cases::{Case, FIBONACCI, MEMORY, Rule, air_of, elements_of, rows_of};
 use circle_air::Place;
 use circle_challenger::Sha256Challenger;
-use circle_stark::{StarkTrace, prove_and_verify};
+use circle_stark::StarkTrace;
 use std::alloc::Global;
 use std::process::Abort;
 use std::test::Fail;
@@ -175,9 +175,8 @@ fn outcome(
     }
 }
 
-// The text of what `prove_and_verify` returns of a trace, and whether both challengers are in one
-// state.
-fn outcome_of_both(rt: &impl Abort, alloc: Global, case: &Case) -> (Text, bool) {
+// The text of what `prove_and_verify` returns, and whether both challengers are in one state.
+fn outcome_of_run(rt: &impl Abort, alloc: Global, case: &Case) -> (Text, bool) {
     let air = air_of(alloc, case.rule).expect(rt, MEMORY);
     let public_values = elements_of(rt, alloc, case.public_values);
     let trace = StarkTrace {
@@ -185,10 +184,7 @@ fn outcome_of_both(rt: &impl Abort, alloc: Global, case: &Case) -> (Text, bool) 
         rows: rows_of(rt, alloc, case),
         public_values: &public_values,
     };
-    let pcs = scheme(case.numbers);
-    let (mut prover, mut verifier) = (Sha256Challenger::new(), Sha256Challenger::new());
-    let run = prove_and_verify(alloc, &pcs, trace, &mut prover, &mut verifier);
-    (told(run), prover == verifier)
+    outcome_of_both(alloc, &scheme(case.numbers), trace)
 }
 
 // What `prove_and_verify` is to return where the verdict on the proof, or the refusal to make one, is
@@ -216,7 +212,7 @@ fn assert_outcome_of_both(
     alloc: Global,
     (case, expected): &Row,
 ) -> Result<(), Fail> {
-    let (text, is_one_state) = outcome_of_both(rt, alloc, case);
+    let (text, is_one_state) = outcome_of_run(rt, alloc, case);
     assert!(rt; is_one_state, "{expected}");
     expect_text(text.as_str(), of_both(expected).as_str())
 }

@@ -1,10 +1,12 @@
 //! The calls on traces and proofs, over any extension and any scheme for codewords.
 use crate::cases::{Case, LOG_N, MEMORY, Rule, air_of, elements_of, rows_of};
-use circle_challenger::{CanObserve, CanSample, GrindingChallenger};
+use circle_challenger::{CanObserve, CanSample, GrindingChallenger, Sha256Challenger};
 use circle_commit::Mmcs;
 use circle_field::{ExtensionField, Field};
-use circle_presets::{Val, ValMmcs};
-use circle_stark::{StarkProof, StarkProverError, StarkStatement, StarkTrace, prove, verify};
+use circle_presets::{Scheme, Val, ValMmcs};
+use circle_stark::{
+    StarkProof, StarkProverError, StarkStatement, StarkTrace, prove, prove_and_verify, verify,
+};
 use p3_circle::CirclePcs;
 use std::alloc::Global;
 use std::fmt::{Display, InlineText};
@@ -89,4 +91,12 @@ where
         public_values: &public_values,
     };
     told(verify(alloc, &given.pcs, statement, &given.proof, challenger))
+}
+
+/// The text of what `prove_and_verify` returns of a trace, and whether both challengers are in one
+/// state.
+pub(crate) fn outcome_of_both(alloc: Global, pcs: &Scheme, trace: StarkTrace<Val>) -> (Text, bool) {
+    let (mut prover, mut verifier) = (Sha256Challenger::new(), Sha256Challenger::new());
+    let run = prove_and_verify(alloc, pcs, trace, &mut prover, &mut verifier);
+    (told(run), prover == verifier)
 }
