@@ -1,7 +1,7 @@
 //! Cases of quotients, lambdas, folds and final polynomials over the cubic extension.
 ghost use Rattle.std.specs.Prelude.{◌≡◌, ◌≤◌, ◌^◌, IfOk};
 
-use crate::given::{matrix, maybe, object_of_two, pair, point, point_off, read, told};
+use crate::calls::given::{matrix, maybe, object_of_two, pair, point, point_off, read, told};
 use anyhow::{Result, bail};
 use circle_commit::{Matrix, RowMajorMatrix, is_power_of_two};
 use circle_field::{Cubic, Field, Mersenne31};

@@ -1,8 +1,6 @@
 //! What calls of the libraries return, by their names, over `Mersenne31` and its cubic extension:
 //! what they are given and what they return is JSON. A call whose conditions what is given doesn't
 //! meet isn't made.
-#![tactic(auto)]
-
 mod airs;
 mod domains;
 mod fields;

@@ -1,5 +1,7 @@
 //! Cases of points and of the transform's order.
-use crate::given::{coordinates, list_of, maybe, maybe_coordinates, point, point_off, read, told};
+use crate::calls::given::{
+    coordinates, list_of, maybe, maybe_coordinates, point, point_off, read, told,
+};
 use anyhow::{Result, bail};
 use circle_field::{Cubic, Field, Mersenne31};
 use circle_json::JsonForm;

@@ -2,7 +2,7 @@
 //! as inputs of `check`.
 ghost use Rattle.std.specs.Prelude.{◌≤◌};
 
-use crate::given::{Rows, matrix, read, rows_of, told};
+use crate::calls::given::{Rows, matrix, read, rows_of, told};
 use anyhow::{Result, bail};
 use circle_air::{Air, AirParts, Violation, check_constraints};
 use circle_airs::permutation::{STATE_LEN, State};

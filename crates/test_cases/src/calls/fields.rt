@@ -1,7 +1,7 @@
 //! Cases of operations of a field: the type's name, a space, and the operation's.
 ghost use Rattle.std.specs.Prelude.{◌≢◌, All, IsTrue};
 
-use crate::given::{maybe, read, told};
+use crate::calls::given::{maybe, read, told};
 use anyhow::{Result, bail};
 use circle_field::{Cubic, Field, Mersenne31, batch_multiplicative_inverse};
 use circle_json::JsonForm;

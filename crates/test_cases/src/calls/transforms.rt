@@ -4,7 +4,7 @@ ghost use Rattle.circle_commit.specs.Matrix.{IsPowerOfTwo};
 ghost use Rattle.circle_commit.specs.RowMajorMatrix.{height_of};
 ghost use Rattle.circle_domain.specs.Domain.{log_size};
 
-use crate::given::{
+use crate::calls::given::{
     Domain, Rows, check_size, domain, list_of, matrix, object_of_two, point, point_off, read,
     rows_of, rows_on, told,
 };

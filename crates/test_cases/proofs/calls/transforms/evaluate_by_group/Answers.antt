@@ -1,4 +1,4 @@
-use Rattle.test_calls.proofs.transforms.evaluate_by_group.Goals as goal
+use Rattle.test_cases.proofs.calls.transforms.evaluate_by_group.Goals as goal
 
 pub evaluate_grouped-requires-clause-positive : goal.evaluate_grouped-requires-clause-positive
 evaluate_grouped-requires-clause-positive c = c.in_ok-coefficients.ensures.domain.0

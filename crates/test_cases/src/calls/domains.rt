@@ -1,5 +1,5 @@
 //! Cases of domains.
-use crate::given::{
+use crate::calls::given::{
     Domain, Rows, check_size, coordinates, domain, maybe, maybe_coordinates, object_of_two,
     point_off, read, rows_of, rows_on, told,
 };
