@@ -1,8 +1,8 @@
 //! Lines about the constraints of an AIR on the rows of a trace: checking and proving them.
 use crate::openings;
 use crate::starks::{self, Statement};
-use bench_passes::timing::{self, Mode};
-use bench_passes::transforms::Size;
+use crate::timing::{self, Mode};
+use crate::transforms::Size;
 use circle_air::{Air, AirError, check_constraints};
 use circle_airs::permutation::STATE_LEN;
 use circle_airs::{Trace, fibonacci_air, fibonacci_trace, permutation_air, permutation_trace};

@@ -1,21 +1,33 @@
 //! Chains of field operations, circle transforms, values at a point, tables of periodic columns,
-//! commitments, the challenger over SHA-256, the whole scheme, a stored proof and constraints on
-//! traces: what they come to, or with the argument `time` how long they take.
+//! commitments, the challenger over SHA-256, the compressions that a proof asks for, the whole
+//! scheme, a stored proof and constraints on traces: what they come to, or with the argument `time`
+//! how long they take.
+//!
+//! Each file prints the lines of its passes; it promises no more than that it is safe, and the gate
+//! compares what is printed. `timing.rt` has what the files share, `transforms.rt` the matrices by
+//! their sizes.
 #![tactic(auto)]
 
 mod airs;
+mod chains;
+mod commitments;
+mod compressions;
+mod evaluations;
+mod hashing;
 mod openings;
 mod proofs;
 mod quotients;
 mod starks;
+mod tables;
+mod timing;
+mod transforms;
 
-use bench_passes::chains::Operation;
-use bench_passes::timing::{self, Case, Mode};
-use bench_passes::transforms::{Size, Transform};
-use bench_passes::{commitments, evaluations, hashing, tables};
+use chains::Operation;
 use circle_field::{Cubic, ExtensionField, Field, Mersenne31};
 use std::process::ExitCode;
 use std::{env, io};
+use timing::{Case, Mode};
+use transforms::{Size, Transform};
 
 /// The chains over [`Mersenne31`].
 const MERSENNE31: [Case; 6] = [

@@ -1,10 +1,10 @@
 //! Lines about the whole scheme: what the proofs of matrices come to, whether they are accepted,
 //! and how long both take, and opening alone.
-use bench_passes::commitments::{Hash, number, numbers};
-use bench_passes::compressions::{self, Proved};
-use bench_passes::evaluations::coefficients;
-use bench_passes::timing::{self, Mode};
-use bench_passes::transforms::Size;
+use crate::commitments::{Hash, number, numbers};
+use crate::compressions::{self, Proved};
+use crate::evaluations::coefficients;
+use crate::timing::{self, Mode};
+use crate::transforms::Size;
 use circle_challenger::{CanObserve, Sha256Challenger};
 use circle_commit::{FriError, FriParameters, OpenedValues, OpeningRequest, RowMajorMatrix};
 use circle_field::{Cubic, ExtensionField, Field, Mersenne31};

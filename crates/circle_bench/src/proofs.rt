@@ -1,6 +1,6 @@
 //! Lines about a stored proof: whether it is accepted, and how long reading and verifying it take.
 use crate::openings;
-use bench_passes::timing::{self, Mode};
+use crate::timing::{self, Mode};
 use circle_challenger::{CanObserve, Sha256Challenger};
 use circle_commit::{CommitmentOpening, FriParameters, MatrixOpening};
 use circle_json::{JsonForm, member};

@@ -1,10 +1,10 @@
 //! Lines about proofs of traces: the values of a quotient, proving and verifying, and beside these
 //! the same two commitments and the same opening alone.
+use crate::commitments::Hash;
 use crate::openings::{self, PARAMETERS, failure, is_accepted};
 use crate::quotients::{extended, quotient};
-use bench_passes::commitments::Hash;
-use bench_passes::timing::{self, Mode};
-use bench_passes::transforms::Size;
+use crate::timing::{self, Mode};
+use crate::transforms::Size;
 use circle_air::Air;
 use circle_airs::Trace;
 use circle_challenger::{CanObserve, Sha256Challenger};

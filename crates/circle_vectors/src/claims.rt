@@ -1,12 +1,10 @@
-//! The greatest height of claims, and claims at points at infinity.
+//! Claims at points at infinity.
 use circle_challenger::Sha256Challenger;
-use circle_commit::{CommitmentOpening, FriError, MatrixOpening, PointOpening};
-use circle_field::{Cubic, ExtensionField, Field, Mersenne31};
+use circle_commit::{CommitmentOpening, MatrixOpening, PointOpening};
+use circle_field::{ExtensionField, Field, Mersenne31};
 use circle_presets::ValMmcs;
-use p3_circle::verifier::validate_claims;
 use p3_circle::{
-    CircleDomain, CircleFriProof, CircleInputProof, CirclePcs, CirclePcsProof, InputError, Neutral,
-    Point,
+    CircleDomain, CircleFriProof, CircleInputProof, CirclePcs, CirclePcsProof, Neutral, Point,
 };
 use std::alloc::{AllocError, Global};
 use std::fmt::InlineText;
@@ -17,47 +15,6 @@ use test_batches::parameters::{SMALL, parameters};
 use test_schemes::matrix_list::MatrixList;
 use test_schemes::quadratic::Quadratic;
 use test_schemes::schemes::{ListMmcs, Nothing};
-
-type Answer = Result<usize, FriError<AllocError, InputError<AllocError, AllocError>>>;
-
-// A batch of matrices, each claimed at no point on a domain of this size.
-fn batch(
-    alloc: Global,
-    log_sizes: &[usize],
-) -> Result<CommitmentOpening<Cubic, (), CircleDomain<Mersenne31>>, AllocError> {
-    let mut matrices = Vec::new(alloc);
-    for log_n in log_sizes {
-        matrices.push(MatrixOpening {
-            domain: CircleDomain::new(*log_n, Point::ZERO),
-            points: Vec::new(alloc),
-        })?;
-    }
-    Ok(CommitmentOpening {
-        commitment: (),
-        matrices,
-    })
-}
-
-/// The sizes of the matrices of two batches.
-type Sizes<'a> = (&'a [usize], &'a [usize]);
-
-// The verdict on claims of two batches, at a blowup and a number of coefficients.
-fn answer(alloc: Global, sizes: Sizes, params: (usize, usize)) -> Result<Answer, AllocError> {
-    let mut claims = one(alloc, batch(alloc, sizes.0)?)?;
-    claims.push(batch(alloc, sizes.1)?)?;
-    Ok(validate_claims(&claims, params.0, params.1))
-}
-
-const TO_FIVE: Sizes<'static> = (&[2, 5], &[4]);
-
-#[test]
-fn the_greatest_height(rt: HostRuntime) -> Result<(), Fail> {
-    for (params, expected) in [((1, 0), 6), ((25, 1), 30)] {
-        let answer = answer(rt.alloc(), TO_FIVE, params)?;
-        assert!(rt; matches!(answer, Ok(height) if height == expected));
-    }
-    Ok(())
-}
 
 type QuadraticClaims = Vec<CommitmentOpening<Quadratic, [u8; 32], CircleDomain<Mersenne31>>>;
 

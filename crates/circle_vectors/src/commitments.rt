@@ -1,11 +1,10 @@
 //! Opened rows and what is refused, over each scheme of commitments.
-use crate::first_program::column;
 use circle_commit::{Dimensions, Mmcs, OpenedRows, are_below, heights_are_powers_of_two};
 use circle_field::{Field, Mersenne31};
 use circle_merkle::ShaMmcs;
 use std::alloc::{AllocError, Global};
 use std::test::Fail;
-use test_batches::batches::one;
+use test_batches::batches::{one, rows};
 use test_schemes::matrix_list::MatrixList;
 use test_schemes::schemes::{ListMmcs, TrustingMmcs};
 
@@ -102,12 +101,15 @@ fn refuses<M: Mmcs<Mersenne31>>(
     }
 }
 
-// Commits to the column 10, 11, .. 17.
+// The entries of the column.
+const ENTRIES: &[u64] = &[10, 11, 12, 13, 14, 15, 16, 17];
+
+// Commits to the column.
 fn committed<M: Mmcs<Mersenne31>>(
     alloc: Global,
     mmcs: &M,
 ) -> Result<(M::Commitment, M::ProverData), Fail> {
-    let inputs = one(alloc, column(alloc, 10..18)?)?;
+    let inputs = one(alloc, rows(alloc, ENTRIES, 1)?)?;
     if inputs.is_empty() || !heights_are_powers_of_two(&inputs) {
         return Err(Fail::new("the column"));
     }
@@ -170,9 +172,9 @@ fn the_trusting_scheme_refuses_none(rt: HostRuntime) -> Result<(), Fail> {
 }
 
 // The column of eight rows and one of three, which no commitment takes.
-fn of_eight_and_three(alloc: Global) -> Result<MatrixList<Mersenne31>, AllocError> {
-    let mut matrices = one(alloc, column(alloc, 10..18)?)?;
-    matrices.push(column(alloc, 0..3)?)?;
+fn of_eight_and_three(alloc: Global) -> Result<MatrixList<Mersenne31>, Fail> {
+    let mut matrices = one(alloc, rows(alloc, ENTRIES, 1)?)?;
+    matrices.push(rows(alloc, &[0, 1, 2], 1)?)?;
     Ok(MatrixList::new(matrices))
 }
 

@@ -11,8 +11,4 @@ mod commitments;
 #[cfg(test)]
 mod committing;
 #[cfg(test)]
-mod first_program;
-#[cfg(test)]
-mod shapes;
-#[cfg(test)]
 mod verify;

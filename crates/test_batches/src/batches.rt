@@ -79,15 +79,8 @@ pub struct Batch {
     pub points: Vec<Vec<Cubic>>,
 }
 
-impl Batch {
-    /// The matrices as they are committed to.
-    pub fn matrices(&self, scheme: &Scheme) -> &[Rows] {
-        scheme.mmcs.get_matrices(&self.data)
-    }
-}
-
-// `CirclePcs::commit`, after a test of what it requires.
-fn commit_to<F: ComplexExtendable, I: Mmcs<F>, W>(
+/// `CirclePcs::commit`, after a test of what it requires.
+pub fn commit_to<F: ComplexExtendable, I: Mmcs<F>, W>(
     alloc: Global,
     scheme: &CirclePcs<F, I, W>,
     evaluations: Vec<(CircleDomain<F>, RowMajorMatrix<F>)>,
@@ -213,17 +206,4 @@ pub fn scattered_batch(
         points,
     } = at_points(alloc, sizes, seed)?;
     commit(alloc, scheme, evaluations, points)
-}
-
-/// Batches of these sizes.
-pub fn scattered_batches(
-    alloc: Global,
-    scheme: &Scheme,
-    sizes: &[&[Size]],
-) -> Result<Vec<Batch>, Fail> {
-    let mut batches = Vec::new(alloc);
-    for (i, of_batch) in sizes.iter().enumerate() {
-        batches.push(scattered_batch(alloc, scheme, of_batch, i as u64)?)?;
-    }
-    Ok(batches)
 }

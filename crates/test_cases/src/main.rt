@@ -1,7 +1,9 @@
 //! Cases of calls, read from files of JSON that the arguments name: what each call is given, and
 //! what is due. For each case a line says whether the result is what is due; the last line counts.
+//! `calls.rt` makes the calls of the libraries, `commands.rt` those of the programs.
 #![tactic(auto)]
 
+mod calls;
 mod case;
 mod commands;
 mod patch;

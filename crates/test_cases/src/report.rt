@@ -1,6 +1,6 @@
 //! The lines of a file's cases.
 use crate::case::{Case, part, text};
-use crate::{commands, patch};
+use crate::{calls, commands, patch};
 use anyhow::{Result, bail};
 use serde_json::Value;
 use std::fs;
@@ -60,9 +60,9 @@ fn difference(rt: &HostRuntime, case: &Case) -> Result<Option<String>> {
     let answer = match case.given.get("file") {
         Some(_) => {
             let given = value_of_file(rt, text(case.given, "file")?)?;
-            test_calls::answer(rt.alloc(), case.call, &given)?
+            calls::answer(rt.alloc(), case.call, &given)?
         }
-        None => test_calls::answer(rt.alloc(), case.call, case.given)?,
+        None => calls::answer(rt.alloc(), case.call, case.given)?,
     };
     let line = answer.to_string(rt.alloc())?;
     let is_due = match case.due.get("file") {

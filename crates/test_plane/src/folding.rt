@@ -1,20 +1,14 @@
-//! The fold of a pair, folds at queries, and the folds by x as a strategy.
+//! The fold of a pair, and the folds by x as a strategy.
 use circle_commit::RowMajorMatrix;
-use circle_field::{Cubic, ExtensionField, Field, Mersenne31};
+use circle_field::{Cubic, Field, Mersenne31};
 use circle_folding::fold_row_with_inv_twiddle;
 use std::process::Abort;
 use test_schemes::expect;
 
-mod queries;
-mod rows;
 mod strategy;
 
 fn element(value: u64) -> Mersenne31 {
     Mersenne31::from_u64(value)
-}
-
-fn cubic(a: u64, b: u64, c: u64) -> Cubic {
-    Cubic::from_coefficients(&[element(a), element(b), element(c)])
 }
 
 #[test]

@@ -1,6 +1,6 @@
-//! Tests of fields, points, domains, the transform, values off a domain, periodic columns, folds
-//! and codewords that no case of `test_cases` can state: those over the quadratic extension, those
-//! beside a plain form, and those whose conditions take a proof.
+//! Tests of fields, points, domains, selectors, values off a domain, periodic columns and folds
+//! that no case of `test_cases` can state: those over the quadratic extension, those beside a plain
+//! form, and those whose conditions take a proof.
 #![tactic(auto)]
 
 #[cfg(test)]
@@ -12,10 +12,6 @@ mod fields;
 #[cfg(test)]
 mod folding;
 #[cfg(test)]
-mod groups;
-#[cfg(test)]
-mod low_degree;
-#[cfg(test)]
 mod off_domain;
 #[cfg(test)]
 mod periodic;
@@ -23,8 +19,6 @@ mod periodic;
 mod points;
 #[cfg(test)]
 mod selectors;
-#[cfg(test)]
-mod smaller;
 #[cfg(test)]
 mod transform;
 #[cfg(test)]

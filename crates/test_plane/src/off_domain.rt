@@ -1,10 +1,9 @@
 //! The weights of values off a domain over Mersenne31 and its cubic extension, beside quotients.
-use crate::smaller::point_at;
 use crate::transform::{MEMORY, Rows, is_genuine, is_in_group};
 use circle_commit::Matrix;
 use circle_domain::{LagrangeWeights, lagrange_weights};
 use circle_field::{Cubic, ExtensionField, Field, Mersenne31};
-use circle_plane::{CircleDomain, CircleEvaluations, Point};
+use circle_plane::{CircleDomain, CircleEvaluations, Point, cfft_permute_index};
 use std::alloc::Global;
 use std::process::Abort;
 use test_schemes::expect;
@@ -36,6 +35,12 @@ pub(crate) fn evaluate_at_point(
     CircleEvaluations::from_natural_order(domain, rows)
         .evaluate_at_point(alloc, at)
         .expect(rt, MEMORY)
+}
+
+// The point at a place of the transform's order.
+fn point_at(rt: &impl Abort, domain: CircleDomain<Mersenne31>, place: usize) -> Point<Mersenne31> {
+    assert!(rt; is_in_group(domain) && place < domain.size());
+    domain.nth_point(cfft_permute_index(place, domain.log_n()))
 }
 
 // `lagrange_weights`, after a test of what it requires.

@@ -4,14 +4,12 @@ ghost use Rattle.circle_commit.specs.RowMajorMatrix.{height_of};
 ghost use Rattle.circle_commit.specs.Matrix.{IsPowerOfTwo};
 ghost use Rattle.circle_domain.specs.Domain.{IsGenuineDomain, log_size};
 ghost use Rattle.circle_field.specs.Mersenne31.{operations};
-ghost use Rattle.circle_plane.specs.CircleEvaluations.{domain_of};
 
 use circle_commit::{Matrix, RowMajorMatrix, is_power_of_two};
-use circle_field::{ExtensionField, Field, Mersenne31};
+use circle_field::{Field, Mersenne31};
 use circle_plane::{CircleDomain, CircleEvaluations};
 use std::alloc::Global;
 use std::process::Abort;
-use test_schemes::expect;
 
 pub(crate) type Domain = CircleDomain<Mersenne31>;
 
@@ -28,43 +26,9 @@ pub(crate) fn rows_of(rt: &impl Abort, entries: Vec<Mersenne31>, width: usize) -
     RowMajorMatrix::new(entries, width)
 }
 
-// A matrix of `height * width` entries without a pattern.
-pub(crate) fn scattered(
-    rt: &impl Abort,
-    alloc: Global,
-    height: usize,
-    width: usize,
-    seed: u64,
-) -> Rows {
-    assert!(rt; height <= 1024 && width >= 1 && width <= 1024);
-    let mut state = Mersenne31::from_u64(seed);
-    let mut values = Vec::new(alloc);
-    for _ in 0..height * width {
-        state = state * Mersenne31::from_u64(1103515245) + Mersenne31::from_u64(12345);
-        values.push(state).expect(rt, MEMORY);
-    }
-    rows_of(rt, values, width)
-}
-
 // A copy of a matrix.
 pub(crate) fn copy_of(rt: &impl Abort, alloc: Global, rows: &Rows) -> Rows {
     rows.try_clone(alloc).expect(rt, MEMORY)
-}
-
-// The sum of a column's entries, each times its factor.
-pub(crate) fn plain_entry<EF: ExtensionField<Mersenne31>>(
-    rt: &impl Abort,
-    matrix: &Rows,
-    column: usize,
-    factors: &[EF],
-) -> EF {
-    let mut sum = EF::ZERO;
-    for r in 0..matrix.height() {
-        let row = matrix.row(r);
-        assert!(rt; column < row.len() && r < factors.len());
-        sum = sum + factors[r] * EF::from_base(row[column]);
-    }
-    sum
 }
 
 // Whether no element is 0.
@@ -101,23 +65,6 @@ pub(crate) fn has_values(domain: Domain, coeffs: &Rows) -> bool
     is_in_group(domain) && is_power_of_two(coeffs.height()) && coeffs.height() <= domain.size()
 }
 
-// Rows in the transform's order on their domain, after a test of what calls on them require.
-pub(crate) fn evaluations(
-    rt: &impl Abort,
-    alloc: Global,
-    domain: Domain,
-    rows: &Rows,
-) -> Evaluations
-    ensures domain { domain_of result ≡ domain }
-    ensures positive { 1 ≤ log_size (domain_of result) }
-    ensures in_group { log_size (domain_of result) ≤ 31 }
-    ensures genuine { IsGenuineDomain operations (domain_of result) }
-{
-    let copy = copy_of(rt, alloc, rows);
-    assert!(rt; is_genuine(domain) && copy.height() == domain.size());
-    CircleEvaluations::from_cfft_order(domain, copy)
-}
-
 // `CircleEvaluations::evaluate`, after a test of what it requires.
 pub(crate) fn evaluate(
     rt: &impl Abort,
@@ -135,18 +82,6 @@ pub(crate) fn interpolate(rt: &impl Abort, alloc: Global, domain: Domain, rows: 
     CircleEvaluations::from_natural_order(domain, rows)
         .interpolate(alloc)
         .expect(rt, MEMORY)
-}
-
-// Asserts that the rows of both are the same.
-pub(crate) fn assert_same<L: Matrix<Mersenne31>, R: Matrix<Mersenne31>>(
-    rt: &impl Abort,
-    left: &L,
-    right: &R,
-) {
-    assert!(rt; left.height() == right.height() && left.width() == right.width());
-    for r in 0..left.height() {
-        expect!(rt; left.row(r) == right.row(r));
-    }
 }
 
 // The matrix of one column with these entries.

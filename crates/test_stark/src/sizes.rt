@@ -1,75 +1,75 @@
-//! Proofs of traces of any number of rows.
-ghost use Rattle.std.specs.Prelude.{◌≤◌};
-
-use circle_air::{Air, AirError};
+//! Traces of both example AIRs, at each power of two of rows.
+use crate::calls::outcome_of_both;
+use circle_air::Air;
 use circle_airs::{Trace, fibonacci_air, fibonacci_trace, permutation_air, permutation_trace};
-use circle_commit::FriParameters;
 use circle_field::Field;
-use circle_presets::{Challenger, Scheme, Val, scheme};
-use circle_stark::{StarkTrace, prove_and_verify};
-use std::alloc::{AllocError, Global};
-use std::fmt::InlineText;
+use circle_presets::Val;
+use circle_stark::StarkTrace;
+use std::alloc::Global;
+use std::process::Abort;
+use std::test::Fail;
+use test_batches::openings::expect_text;
+use test_batches::parameters::{SMALL, scheme};
 
-/// The text of a result.
-pub type Text = InlineText<64>;
+const ACCEPTED: &str = "accepted";
 
-/// The numbers of rows: each power of two from the least that can be folded to 2^10.
-pub const HEIGHTS: [usize; 9] = [4, 8, 16, 32, 64, 128, 256, 512, 1024];
+const LONG_PERIOD: &str = "there is no proof: periodic column 0 is longer than the trace";
 
-// The scheme: twice as many rows are committed to as there are, and two of them are queried.
-fn small_scheme() -> Scheme {
-    scheme(FriParameters {
-        log_blowup: 1,
-        log_final_poly_len: 0,
-        max_log_arity: 1,
-        num_queries: 2,
-        batch_proof_of_work_bits: 0,
-        commit_proof_of_work_bits: 0,
-        query_proof_of_work_bits: 0,
-        mmcs: (),
-    })
-}
+// Each power of two from the least number of rows that can be folded to 2^10, and what is returned
+// of so many rows of the permutation, whose periodic columns have 16 entries.
+const HEIGHTS: &[(usize, &str)] = &[
+    (4, LONG_PERIOD),
+    (8, LONG_PERIOD),
+    (16, ACCEPTED),
+    (32, ACCEPTED),
+    (64, ACCEPTED),
+    (128, ACCEPTED),
+    (256, ACCEPTED),
+    (512, ACCEPTED),
+    (1024, ACCEPTED),
+];
 
-// The text of what `prove_and_verify` returns of a trace.
-fn outcome(alloc: Global, air: &Air<Val>, trace: Trace<Val>) -> Text {
-    let (mut prover, mut verifier) = (Challenger::new(), Challenger::new());
+// Asserts what `prove_and_verify` returns of a trace, and that both challengers are in one state.
+fn assert_outcome(
+    rt: &impl Abort,
+    alloc: Global,
+    air: &Air<Val>,
+    trace: Trace<Val>,
+    expected: &str,
+) -> Result<(), Fail> {
     let stark_trace = StarkTrace {
         air,
         rows: trace.rows,
         public_values: &trace.public_values,
     };
-    let run = prove_and_verify(
-        alloc,
-        &small_scheme(),
-        stark_trace,
-        &mut prover,
-        &mut verifier,
-    );
-    if let Err(refusal) = run {
-        return Text::of(refusal);
-    }
-    if prover == verifier {
-        Text::of("accepted")
-    } else {
-        Text::of("accepted, with other challengers")
-    }
+    let (text, is_one_state) = outcome_of_both(alloc, &scheme(SMALL), stark_trace);
+    assert!(rt; is_one_state, "{expected}");
+    expect_text(text.as_str(), expected)
 }
 
-/// Fibonacci numbers in so many rows, at least one.
-pub fn fibonacci(alloc: Global, height: usize) -> Result<Text, AirError>
-    requires { 1 ≤ height }
-{
+fn assert_fibonacci(rt: &impl Abort, alloc: Global, height: usize) -> Result<(), Fail> {
     let air = fibonacci_air(alloc)?;
-    let trace = fibonacci_trace(alloc, Val::ONE, Val::ONE, height)?;
-    Ok(outcome(alloc, &air, trace))
+    let trace = fibonacci_trace(alloc, Val::ONE, Val::ONE, height.max(1))?;
+    assert_outcome(rt, alloc, &air, trace, ACCEPTED)
 }
 
-/// Rounds of the permutation in so many rows, at least one.
-pub fn permutation(alloc: Global, height: usize) -> Result<Text, AirError>
-    requires { 1 ≤ height }
-{
+fn assert_permutation(
+    rt: &impl Abort,
+    alloc: Global,
+    height: usize,
+    expected: &str,
+) -> Result<(), Fail> {
     let air = permutation_air(alloc)?;
     let first = [0, 1, 2, 3, 4, 5, 6, 7].map(|n| Val::from_u64(n));
-    let trace = permutation_trace(alloc, &first, height)?;
-    Ok(outcome(alloc, &air, trace))
+    let trace = permutation_trace(alloc, &first, height.max(1))?;
+    assert_outcome(rt, alloc, &air, trace, expected)
+}
+
+#[test]
+fn each_power_of_two_of_rows(rt: HostRuntime) -> Result<(), Fail> {
+    for (height, of_permutation) in HEIGHTS {
+        assert_fibonacci(&rt, rt.alloc(), *height)?;
+        assert_permutation(&rt, rt.alloc(), *height, of_permutation)?;
+    }
+    Ok(())
 }
