@@ -40,7 +40,11 @@ pub const NAMES: &[&str] = &[
     "stark_prove",
     "stark_verify",
     "stark_round_trip",
+    "without_fields",
+    "without_points",
+    "without_domains",
     "without_matrices",
+    "without_codewords",
     "without_airs",
     "without_quotients",
     "without_challenger",
@@ -140,7 +144,11 @@ fn of_openings(alloc: Global, stage: Stage, name: &str) -> Option<Result<Told>> 
 // Those of a subject that allocate nothing.
 fn of_subject(alloc: Global, stage: Stage, subject: &str) -> Option<Result<Told>> {
     Some(match subject {
+        "fields" => without::fields::fields(stage),
+        "points" => without::points::points(stage),
+        "domains" => without::domains::domains(stage),
         "matrices" => without::matrices::matrices(alloc, stage),
+        "codewords" => without::codewords::codewords(stage),
         "airs" => without::airs::airs(alloc, stage),
         "quotients" => without::quotients::quotients(stage),
         "challenger" => without::challenger::challenger(stage),

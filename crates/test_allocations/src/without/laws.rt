@@ -6,19 +6,10 @@ use crate::transcript::shape;
 use anyhow::Result;
 use circle_completeness::laws::{height_words_are_low, last_word_is_low};
 use circle_domain::laws::{coefficients_are_only, halves_add, multiples_add};
-use circle_field::laws::{powers_multiply, sums_add};
 use circle_field::{ComplexExtendable, Cubic, ExtensionField, Field, Mersenne31};
-use p3_circle::laws::{claim_binds, constant_seeds, equal_points_hash_equally, quotient_binds};
+use p3_circle::laws::{claim_binds, constant_seeds, quotient_binds};
 use p3_circle::{CircleDomain, Matrix, Point, RowMajorMatrix};
 use std::alloc::Global;
-
-// Those of elements and of points.
-fn of_elements(one: Mersenne31, other: Mersenne31) {
-    powers_multiply(one, 2, 3);
-    sums_add(one, other, 2, 3);
-    let point = Point::<Mersenne31>::generator(5);
-    equal_points_hash_equally(point, point.double());
-}
 
 // Those of the values of a polynomial at a point.
 fn of_values(lower: &[Mersenne31], upper: &[Mersenne31], log_half: usize) -> Result<()> {
@@ -89,7 +80,6 @@ pub fn laws(alloc: Global, stage: Stage) -> Result<Told> {
     let column = RowMajorMatrix::new_col(Vec::from_slice(alloc, &[cubic([2, 7, 1]); 8])?);
     stage.begin()?;
     let (one, other) = ([Mersenne31::ONE; 4], [Mersenne31::TWO; 4]);
-    of_elements(Mersenne31::ONE, Mersenne31::TWO);
     of_values(&one, &other, 2)?;
     of_coefficients(Domain::standard(2), &one, &other)?;
     of_codewords(cubic([1, 5, 9]), cubic([3, 1, 4]));
