@@ -1,4 +1,4 @@
-//! Zeros are accepted over each scheme, and changes of them are refused.
+//! Zeros are accepted over each scheme, and another final polynomial of theirs is refused.
 use crate::any_scheme::accepts;
 use circle_challenger::{CanObserve, CanSample, GrindingChallenger, Sha256Challenger};
 use circle_commit::{FriError, Mmcs};
@@ -9,6 +9,7 @@ use std::alloc::{AllocError, Global};
 use std::process::Abort;
 use std::test::Fail;
 use test_batches::batches::one;
+use test_batches::openings::{expect_text, shown};
 use test_schemes::schemes::ListMmcs;
 
 mod zeros;
@@ -23,10 +24,30 @@ type Answer<I, W> = Result<
     >,
 >;
 
-// Four zeros over trees.
-fn honest(alloc: Global) -> Result<Zeros<ValMmcs, ChallengeMmcs>, Fail> {
+// The coefficients of the honest final polynomial.
+fn zero_poly(alloc: Global, size: Size) -> Result<Vec<Cubic>, AllocError> {
+    vec![in alloc; Cubic::ZERO; size.coefficients]
+}
+
+// Zeros over trees, proved from the fresh challenger with this final polynomial.
+fn proved(
+    alloc: Global,
+    size: Size,
+    final_poly: Vec<Cubic>,
+) -> Result<Zeros<ValMmcs, ChallengeMmcs>, Fail> {
     let schemes = (ValMmcs::new(), ChallengeMmcs::new());
-    prove(alloc, schemes, FOUR, &mut Sha256Challenger::new())
+    prove(
+        alloc,
+        schemes,
+        size,
+        final_poly,
+        &mut Sha256Challenger::new(),
+    )
+}
+
+// Zeros over trees, proved honestly.
+fn honest(alloc: Global, size: Size) -> Result<Zeros<ValMmcs, ChallengeMmcs>, Fail> {
+    proved(alloc, size, zero_poly(alloc, size)?)
 }
 
 // The verdict from the state of the challenger.
@@ -57,7 +78,7 @@ where
     Sha256Challenger: CanObserve<W::Commitment>,
 {
     let mut prover = Sha256Challenger::new();
-    let honest = prove(alloc, schemes, size, &mut prover)?;
+    let honest = prove(alloc, schemes, size, zero_poly(alloc, size)?, &mut prover)?;
     let mut verifier = Sha256Challenger::new();
     assert!(rt; verify(alloc, honest, &mut verifier).is_ok());
     assert!(rt; verifier != Sha256Challenger::new() && verifier == prover);
@@ -84,9 +105,9 @@ fn accepts_as_any(alloc: Global, zeros: Zeros<ValMmcs, ChallengeMmcs>) -> Result
     accepts(alloc, &scheme, claims, &proof, &mut Sha256Challenger::new())
 }
 
-// Four zeros with another final polynomial.
+// Four zeros, proved honestly, with another final polynomial.
 fn with_another_polynomial(alloc: Global) -> Result<Zeros<ValMmcs, ChallengeMmcs>, Fail> {
-    let mut other = honest(alloc)?;
+    let mut other = honest(alloc, FOUR)?;
     other.proof.fri_proof.final_poly = one(alloc, Cubic::ONE)?;
     Ok(other)
 }
@@ -94,7 +115,7 @@ fn with_another_polynomial(alloc: Global) -> Result<Zeros<ValMmcs, ChallengeMmcs
 #[test]
 fn zeros_over_any_scheme(rt: HostRuntime) -> Result<(), Fail> {
     let alloc = rt.alloc();
-    let accepts_honest = accepts_as_any(alloc, honest(alloc)?)?;
+    let accepts_honest = accepts_as_any(alloc, honest(alloc, FOUR)?)?;
     let accepts_other = accepts_as_any(alloc, with_another_polynomial(alloc)?)?;
     assert!(rt; accepts_honest && !accepts_other);
     Ok(())
@@ -152,7 +173,8 @@ where
     W: Mmcs<Cubic> + Drop,
     Sha256Challenger: CanObserve<W::Commitment>,
 {
-    let mut zeros = prove(alloc, schemes, FOUR, &mut Sha256Challenger::new())?;
+    let (poly, mut prover) = (zero_poly(alloc, FOUR)?, Sha256Challenger::new());
+    let mut zeros = prove(alloc, schemes, FOUR, poly, &mut prover)?;
     apply(alloc, &mut zeros, change)?;
     let mut verifier = Sha256Challenger::new();
     let answer = verify(alloc, zeros, &mut verifier);
@@ -178,4 +200,14 @@ fn changed_zeros_are_refused(rt: HostRuntime) -> Result<(), Fail> {
         assert_refused(&rt, rt.alloc(), (ListMmcs, ListMmcs), change)?;
     }
     Ok(())
+}
+
+// All is opened as it was committed to, and folds to 0.
+#[test]
+fn another_final_polynomial(rt: HostRuntime) -> Result<(), Fail> {
+    let alloc = rt.alloc();
+    let proved = proved(alloc, FOUR, one(alloc, Cubic::ONE)?)?;
+    let answer = shown(verify(alloc, proved, &mut Sha256Challenger::new()));
+    let mismatch = "a query is folded to another value than the final polynomial's";
+    expect_text(answer.as_str(), mismatch)
 }

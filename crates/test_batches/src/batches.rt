@@ -79,8 +79,8 @@ pub struct Batch {
     pub points: Vec<Vec<Cubic>>,
 }
 
-/// `CirclePcs::commit`, after a test of what it requires.
-pub fn commit_to<F: ComplexExtendable, I: Mmcs<F>, W>(
+// `CirclePcs::commit`, after a test of what it requires.
+fn commit_to<F: ComplexExtendable, I: Mmcs<F>, W>(
     alloc: Global,
     scheme: &CirclePcs<F, I, W>,
     evaluations: Vec<(CircleDomain<F>, RowMajorMatrix<F>)>,

@@ -30,8 +30,6 @@ pub(crate) enum Change {
     Digest(Root),
     /// A witness is one, though there is no proof of work.
     Witness(Phase),
-    /// The first coefficient of the final polynomial is raised by one.
-    FinalPolynomial,
 }
 
 /// A list of opened values.
@@ -127,12 +125,6 @@ fn change_witness(rt: &impl Abort, proof: &mut Proof, phase: Phase) {
     *witness = Mersenne31::ONE;
 }
 
-fn raise_final(rt: &impl Abort, proof: &mut Proof) {
-    let first = proof.opening_proof.fri_proof.final_poly.first_mut();
-    let coefficient = first.expect(rt, "there is no coefficient");
-    *coefficient = *coefficient + Cubic::ONE;
-}
-
 // Changes a proof, its statement or the parameters.
 fn apply(rt: &impl Abort, alloc: Global, given: &mut Given<Cubic, ChallengeMmcs>, change: Change) {
     let opened = &mut given.proof.opened_values;
@@ -150,7 +142,6 @@ fn apply(rt: &impl Abort, alloc: Global, given: &mut Given<Cubic, ChallengeMmcs>
         Change::ChunksSwapped => opened.quotient_chunks.reverse(),
         Change::Digest(root) => change_root(&mut given.proof, root),
         Change::Witness(phase) => change_witness(rt, &mut given.proof, phase),
-        Change::FinalPolynomial => raise_final(rt, &mut given.proof),
     }
 }
 

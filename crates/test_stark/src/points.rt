@@ -142,12 +142,6 @@ const PROOFS: &[OfProof] = &[
         OTHER_QUOTIENT,
         When::AtEnd,
     ),
-    (
-        Change::FinalPolynomial,
-        TWO,
-        "invalid opening: a query is folded to another value than the final polynomial's",
-        When::AtEnd,
-    ),
     (Change::Nothing, ON_TRACE, UNFIT, When::AtPoint),
     (Change::Nothing, BEFORE_HALF_TURN, UNFIT, When::AtPoint),
     (
