@@ -101,6 +101,9 @@ def name_of_type(text, variables):
     if text.startswith("["):
         item, _, size = text[1:-1].partition(";")
         return f"Array{name_of_type(item, variables)}{size.strip()}" if size else "Slice"
+    if text.startswith("("):
+        parts = parts_of(text[1:-1])
+        return f"Tuple{len(parts)}" + "".join(name_of_type(it, variables) for it in parts)
     head, _, rest = text.partition("<")
     path = [it.strip() for it in head.split("::")][-2:]
     name = "".join(it[:1].upper() + it[1:] for it in path if it not in ("crate", "self", "super"))
@@ -109,26 +112,31 @@ def name_of_type(text, variables):
     return name + "".join(name_of_type(it, variables) for it in of)
 
 
-def owner_of(head):
-    """What the items of an impl or a trait have before their names."""
-    text = " ".join(head.split())
+def parts_of_impl(head):
+    """Of an impl's head: its variables, its trait, which is empty where it is of none, and its
+    type."""
+    text = re.sub(r"^(?:unsafe )?impl\b ?", "", " ".join(head.split()))
     variables = set()
-    found = re.match(r"(?:pub(?:\([^)]*\))? )?(?:unsafe )?(impl|trait)\b ?", text)
-    kind, text = found[1], text[found.end() :]
-    if kind == "trait":
-        return re.match(r"\w+", text)[0]
     if text.startswith("<"):
         end = closing(text, 0)
         for part in parts_of(text[1 : end - 1]):
             variables.add(re.match(r"(?:const )?('?\w+)", part)[1])
         text = text[end:].strip()
     text = re.split(r" where\b| ghost\b", text)[0].strip()
-    of = re.split(r" for (?!<)", text)
-    if len(of) == 1:
-        head, _, rest = text.partition("<")
+    trait, *own = re.split(r" for (?!<)", text)
+    return (variables, trait.strip(), own[-1].strip()) if own else (variables, "", trait)
+
+
+def owner_of(head):
+    """What the items of an impl or a trait have before their names."""
+    found = re.match(r"(?:pub(?:\([^)]*\))? )?(?:unsafe )?trait (\w+)", " ".join(head.split()))
+    if found:
+        return found[1]
+    variables, trait, own = parts_of_impl(head)
+    if not trait:
+        head, _, rest = own.partition("<")
         words = re.findall(r"(?<!')\b\w+", re.sub(r"'\w+", "", rest))
         return "+".join([head.strip(), *words]) if {*words} - variables else head.strip()
-    trait, own = of[0].strip(), of[-1].strip()
     own_name = "Any" if own in variables else name_of_type(own, variables)
     head, _, rest = trait.partition("<")
     inner = [it for it in parts_of(rest.rsplit(">", 1)[0])] if rest else []
