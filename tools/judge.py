@@ -187,7 +187,7 @@ def without_comments(path):
 
 def sum_of(workspace, mutant, source):
     """What a verdict on a mutant rests on: its text, the files that it turns and its function's
-    file, and what these can name of the crate and of those below it, but for comments."""
+    file, and what these can use of the crate and of those below it, but for comments."""
     given, words = hashlib.sha256(mutant.text.encode()), {*WORD.findall(mutant.text)}
     turned = {path for path, _, _ in mutant.pairs()} | ({f"src/{source}"} if source else set())
     for path in sorted(turned):

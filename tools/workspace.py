@@ -64,6 +64,10 @@ class Workspace:
         paths = [path for folder in folders if folder.is_dir() for path in folder.rglob("*")]
         return sorted(path for path in paths if path.is_file())
 
+    def text(self, path):
+        """What a file says."""
+        return path.read_text(encoding="utf-8")
+
     def rlib(self, name):
         """Where the kit leaves a library for the crates above it."""
         return self.folder(name) / "out" / "rlib" / f"{name}.rlib"
